@@ -16,11 +16,10 @@ ghost use Rattle.vt_spec.specs.Machine.Descriptors.{overwritten};
 ghost use Rattle.vt_spec.specs.Tree.{bytes_in, entries_in, is_directory_node, names_in};
 ghost use Rattle.vt_spec.specs.TreeInvariant.{IsDirectory, entry_at as number_at};
 ghost use Rattle.vt_fs.specs.FilesystemsValue.{seen_in};
-ghost use Rattle.vt_fs.specs.Trees.Slots.{most_uses};
 ghost use Rattle.vt_fs.specs.Trees.TreeValue.{inodes_of};
 ghost use Rattle.vt_location.specs.Locations.{number_of};
 ghost use Rattle.vt_location.specs.declared.births.Birth.TheVariants.{Here};
-ghost use Rattle.vt_location.specs.Numbers.{exchanged};
+ghost use Rattle.vt_location.specs.Numbers.{exchanged, most_counted};
 
 use crate::tree::Tree;
 use indexmap::IndexMap;
@@ -56,8 +55,8 @@ impl Filesystem {
         ensures tree { OnOk result (seen_in root.filesystem.count self.new.tree
             ≡ pinned nat_eq (seen_in root.filesystem.count self.old.tree) (number_of root)) }
         ensures mounts { OnOk result (self.new.mounts ≡ self.old.mounts + 1) }
-        ensures few { self.old.mounts < most_uses
-            → uses_in ((seen_in root.filesystem.count self.old.tree).inode (number_of root)) < most_uses → IsOk result }
+        ensures few { self.old.mounts < most_counted
+            → uses_in ((seen_in root.filesystem.count self.old.tree).inode (number_of root)) < most_counted → IsOk result }
         ensures err { OnErr result (self.new ≡ self.old) }
     {
         if self.mounts == u64::MAX {
@@ -337,7 +336,7 @@ impl Filesystems {
     pub fn hold_mount(&mut self, filesystem: FilesystemId) -> Result<(), AllocError>
         ensures ok { OnOk result
             (self.new ≡ with_changed filesystem.count (λ entry. record entry { mounts = entry.mounts + 1 }) self.old) }
-        ensures limit { IsErr result ↔ ((entry_at self.old filesystem.count).mounts ≡ most_uses) }
+        ensures limit { IsErr result ↔ ((entry_at self.old filesystem.count).mounts ≡ most_counted) }
         ensures err { OnErr result (self.new ≡ self.old) }
     {
         if self.mounts(filesystem) == u64::MAX {
@@ -379,8 +378,8 @@ impl Filesystems {
     #[inline(always)]
     pub fn hold_root(&mut self, root: NodeRef) -> Result<(), AllocError>
         ensures ok { OnOk result (HoldsRoot root.filesystem.count (number_of root) self.old self.new) }
-        ensures few { (entry_at self.old root.filesystem.count).mounts < most_uses
-            → uses_in ((inodes_at self.old root.filesystem.count).inode (number_of root)) < most_uses → IsOk result }
+        ensures few { (entry_at self.old root.filesystem.count).mounts < most_counted
+            → uses_in ((inodes_at self.old root.filesystem.count).inode (number_of root)) < most_counted → IsOk result }
         ensures err { OnErr result (self.new ≡ self.old) }
     {
         match self.by_number.get_mut(&root.filesystem) {
@@ -641,7 +640,7 @@ impl Filesystems {
             (ChangesInodes object.filesystem.count
             (λ inodes. pinned nat_eq inodes (number_of object)) self.old self.new) }
         ensures limit { IsErr result
-            ↔ (uses_in ((inodes_at self.old object.filesystem.count).inode (number_of object)) ≡ most_uses) }
+            ↔ (uses_in ((inodes_at self.old object.filesystem.count).inode (number_of object)) ≡ most_counted) }
         ensures err { OnErr result (self.new ≡ self.old) }
     {
         let Some(tree) = self.get_mut(object.filesystem) else {

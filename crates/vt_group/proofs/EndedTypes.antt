@@ -2,9 +2,10 @@
 use Rattle.std.proofs.Common.{◌≡◌, ℕ, Bool, true, false, cond, List, [], ◌∷◌, map, nat_eq, nat_lt, Option, None, Some, option_map, refl, sym, ap, ◌∙◌, eqb-true, filter_map, if◌then◌else◌, unwrap_or, nat_cmp, Less, Equal, Greater}
 use Rattle.vt_spec.proofs.Common.{AllByRecursion, Private, Propagation, Shared, Slave, Unbindable, and_from, and_parts, cons_option, keys_of, list_all, lookup, sorted_head, sorted_tail, then_some}
 use Rattle.std.specs.List.Sorted.{IsStrictlySortedBy}
+use Rattle.vt_spec.specs.Machine.Receives.{slave_of_heir}
 use Rattle.vt_location.specs.Numbers.{counted}
 use Rattle.vt_group.specs.Grouping.{are_rising}
-use Rattle.vt_group.specs.Leaving.{slave_or_private, type_after_end}
+use Rattle.vt_group.specs.Leaving.{type_after_end}
 use Rattle.vt_group.specs.Steps.{handed_peer, handed_type}
 use Rattle.vt_group.proofs.Regrouping.{keys, lookup-low}
 use Rattle.vt_location.proofs.NumberLemmas.{counted_less}
@@ -99,7 +100,7 @@ once_ended lost heir (Some (Shared group)) = refl
 once_ended lost heir (Some (Slave master)) = by (nat_eq master lost) heir
   where
     by : (b : Bool) (o : Option ℕ) → unwrap_or (option_map Slave (if b then o else Some master)) Private
-        ≡ (if b then slave_or_private o else Slave master)
+        ≡ (if b then slave_of_heir o else Slave master)
     by true None = refl
     by true (Some above) = refl
     by false o = refl

@@ -1,6 +1,6 @@
 -- Several mounts lose their groups: one after another, or all at once.
 use Rattle.std.proofs.Common.{◌≡◌, refl, sym, ap, subst, ◌∙◌, true, false, Bool, List, None, Option, Some, [], is_some, map, option_map, true≢false, ℕ, nat_eq, ◌||◌, ◌∷◌, ◌++◌, inl, inr, not, ne_eqb, length, take, get_or, ◌<◌, ◌+◌, eqb-true, Contains, if◌then◌else◌, unwrap_or}
-use Rattle.vt_spec.proofs.Common.{Among, HasLivingGroups, Lives, Mount, Private, Propagation, Shared, Slave, ToPrivate, ToSlave, ToUnbindable, TypeWord, Unbindable, World, after_going, among-from_map, among-map, among_from_all, any_from_among, contains_from_among, detached, group_of, has_master, has_members, has_no_master, inherited, inheriting, is_among, is_lost_group, is_member_of, list_any, list_any-append, lookup, lost_a_group, map-append, map_alike, map_twice, master_after, mount_point_left, nat_eq-swapped, or-false, regrouped, regrouped_by, retyped, retyped_mount, same_Some, source_of, take_more, taken_away, then_some, type_after, with_master, with_mounts, with_new_groups}
+use Rattle.vt_spec.proofs.Common.{Among, HasLivingGroups, Lives, Mount, Private, Propagation, Shared, Slave, ToPrivate, ToSlave, ToUnbindable, TypeWord, Unbindable, World, after_going, among-from_map, among-map, among_from_all, any_from_among, contains_from_among, detached, group_of, has_master, has_members, has_no_master, inherited, inheriting, is_among, is_lost_group, is_member_of, list_any, list_any-append, lookup, lost_a_group, map-append, map_alike, map_twice, master_after, inherited_mount_point, nat_eq-swapped, or-false, regrouped, regrouped_by, retyped, retyped_mount, same_Some, source_of, take_more, taken_away, then_some, type_after, with_master, with_mounts, with_new_groups}
 use Rattle.vt_location.specs.declared.numbers.MountId.{MountId}
 use Rattle.vt_location.specs.Numbers.{counted}
 use Rattle.vt_group.specs.Grouping.{Grouping, Has, HasGroup, HasMount, LacksGroup, propagation_in, retyped_if, with_propagation}
@@ -236,7 +236,7 @@ module _ (world : World ℕ) (live : AllGroupsLive world) where
     where
       by : (mount : Mount ℕ) (b : Bool) → key_of (if b then record mount { propagation = Private } else mount)
           ≡ key_of (if b then detached mount else record mount {
-            mount_point = option_map (mount_point_left nat_eq world numbers) mount.mount_point;
+            mount_point = option_map (inherited_mount_point nat_eq world numbers) mount.mount_point;
           })
       by mount true = refl
       by mount false = refl

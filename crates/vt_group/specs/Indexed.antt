@@ -1,5 +1,6 @@
 -- The lists by which the groups find mounts and groups.
 use Rattle.std.specs.Prelude.{Bool, IsSome, None, Option, Some, false, true, ℕ, ◌≡◌}
+use Rattle.vt_location.specs.Numbers.{same_id}
 use Rattle.vt_location.specs.declared.mounts.Propagation.{Propagation}
 use Rattle.vt_location.specs.declared.mounts.Propagation.TheVariants.{Private, Shared, Slave, Unbindable}
 use Rattle.vt_location.specs.declared.numbers.GroupId.{GroupId}
@@ -7,7 +8,7 @@ use Rattle.vt_location.specs.declared.numbers.MountId.{MountId}
 use Rattle.vt_group.specs.declared.index.Index.{Index}
 use Rattle.vt_group.specs.Handing.{group_handed, kind_handed}
 use Rattle.vt_group.specs.Names.{is_under}
-use Rattle.vt_group.specs.Sets.{same_group, same_id}
+use Rattle.vt_group.specs.Sets.{same_group}
 use Rattle.vt_group.specs.ByNumber.{IsAscending, Numbered, value_at}
 
 abbrev pub group_of_kind : Propagation → Option GroupId

@@ -5,6 +5,7 @@ use Rattle.std.specs.Map.{remove_entry}
 use Rattle.vt_spec.specs.Lists.{holds_of, then_some}
 use Rattle.vt_spec.specs.Machine.Mounts.{Propagation, group_of}
 use Rattle.vt_spec.specs.Machine.Mounts.Propagation.{Private, Shared, Slave, Unbindable}
+use Rattle.vt_spec.specs.Machine.Receives.{slave_of_heir}
 use Rattle.vt_group.specs.Grouping.{Grouping, master_in, propagation_in}
 use Rattle.vt_group.specs.Steps.{handed, has_peers, is_member, with_peer}
 use Rattle.vt_group.specs.Together.{as_slave}
@@ -23,15 +24,11 @@ if_lone groups mount (Some group) =
 abbrev pub lone_group : Grouping → ℕ → Option ℕ
 lone_group groups mount = if_lone groups mount (group_of (propagation_in groups mount))
 
-abbrev pub slave_or_private : Option ℕ → Propagation ℕ
-slave_or_private None = Private
-slave_or_private (Some master) = Slave master
-
 -- The type of a mount after a group ended that had this heir. A slave of the group is a slave of the heir then, or
 -- private if there is none.
 abbrev pub type_after_end : ℕ → Option ℕ → Propagation ℕ → Propagation ℕ
 type_after_end lost heir (Shared group) = Shared group
-type_after_end lost heir (Slave master) = if nat_eq master lost then slave_or_private heir else Slave master
+type_after_end lost heir (Slave master) = if nat_eq master lost then slave_of_heir heir else Slave master
 type_after_end lost heir Private = Private
 type_after_end lost heir Unbindable = Unbindable
 

@@ -12,9 +12,6 @@ use Rattle.vt_group.specs.declared.sets.Sets.{Sets}
 abbrev pub same_group : GroupId → GroupId → Bool
 same_group a b = nat_eq a.count b.count
 
-abbrev pub same_id : MountId → MountId → Bool
-same_id a b = nat_eq a.count b.count
-
 -- what is in a set
 abbrev pub elements : {T : Type 0} → Set T → List T
 elements (Set.One only) = option_to_list only

@@ -7,11 +7,12 @@ ghost use Rattle.vt_location.specs.declared.mounts.Propagation.TheVariants.{Shar
 ghost use Rattle.vt_location.specs.declared.numbers.GroupId.{GroupId as GroupNumber};
 ghost use Rattle.vt_location.specs.declared.numbers.MountId.{MountId as MountNumber};
 ghost use Rattle.vt_spec.specs.Lists.{then_some};
+ghost use Rattle.vt_location.specs.Numbers.{same_id};
 ghost use Rattle.vt_group.specs.Handing.{group_handed, kind_handed};
 ghost use Rattle.vt_group.specs.Indexed.{Hands, has_source, is_listed, is_lower, is_relative, source_of_kind};
 ghost use Rattle.vt_group.specs.Listing.{EachJoined, EachListed, EachShared, IsJoined, IsListed, IsShared};
 ghost use Rattle.vt_group.specs.Names.{KeepsNames, is_under};
-ghost use Rattle.vt_group.specs.Sets.{has, same_group, same_id};
+ghost use Rattle.vt_group.specs.Sets.{has, same_group};
 
 use crate::by_number::ByNumber;
 use crate::groups::NewGroup;

@@ -1,9 +1,10 @@
 //! The names of one group.
 ghost use Rattle.std.specs.Prelude.{◌≡◌, ◌++◌, ◌∷◌, ◌+◌, ◌<◌, ◌^◌, [], IfOk, IsOk, if◌then◌else◌, is_ok, length, true};
 ghost use Rattle.std.specs.List.{list_any};
+ghost use Rattle.vt_location.specs.Numbers.{same_id};
 ghost use Rattle.vt_location.specs.declared.numbers.GroupId.{GroupId as GroupNumber};
 ghost use Rattle.vt_location.specs.declared.numbers.MountId.{MountId as MountNumber};
-ghost use Rattle.vt_group.specs.Sets.{has, same_group, same_id};
+ghost use Rattle.vt_group.specs.Sets.{has, same_group};
 
 use crate::names::drop_unused;
 use crate::sets::Sets;

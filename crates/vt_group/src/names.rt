@@ -2,10 +2,11 @@
 ghost use Rattle.std.specs.Prelude.{◌≡◌, ◌≤◌, [], Bool, drop, IfOk, false, is_some, length, true};
 ghost use Rattle.std.specs.List.{list_any};
 ghost use Rattle.std.specs.Map.{lookup};
+ghost use Rattle.vt_location.specs.Numbers.{same_id};
 ghost use Rattle.vt_location.specs.declared.numbers.GroupId.{GroupId as GroupNumber};
 ghost use Rattle.vt_location.specs.declared.numbers.MountId.{MountId as MountNumber};
 ghost use Rattle.vt_group.specs.Names.{KeepsNames, is_under, names_of, names_of_any};
-ghost use Rattle.vt_group.specs.Sets.{has, kept_in, same_group, same_id};
+ghost use Rattle.vt_group.specs.Sets.{has, kept_in, same_group};
 
 use crate::name_list::NameList;
 use crate::sets::Sets;

@@ -3,11 +3,12 @@
 //! Mounts mostly leave in the order in which they came.
 ghost use Rattle.std.specs.Prelude.{◌≡◌, ◌<◌, ◌≤◌, false, true, get_or, length, IsSome, IsTrue, OnOk, IfOk, ◌∷◌, []};
 ghost use Rattle.std.specs.List.{list_any};
+ghost use Rattle.vt_location.specs.Numbers.{same_id};
 ghost use Rattle.vt_location.specs.declared.numbers.GroupId.{GroupId as GroupNumber};
 ghost use Rattle.vt_location.specs.declared.numbers.MountId.{MountId as MountNumber};
 ghost use Rattle.vt_deque.specs.SliceDeque.{items};
 ghost use Rattle.vt_group.specs.ByNumber.{value_at};
-ghost use Rattle.vt_group.specs.Sets.{elements, same_group, same_id};
+ghost use Rattle.vt_group.specs.Sets.{elements, same_group};
 
 use crate::by_number::ByNumber;
 use crate::id::Id;

@@ -1,9 +1,10 @@
 //! Sets of mounts or groups, each under a group.
 ghost use Rattle.std.specs.Prelude.{◌≡◌, IsSome, ◌&&◌, false, true, OnOk};
+ghost use Rattle.vt_location.specs.Numbers.{same_id};
 ghost use Rattle.vt_location.specs.declared.numbers.GroupId.{GroupId as GroupNumber};
 ghost use Rattle.vt_location.specs.declared.numbers.MountId.{MountId as MountNumber};
 ghost use Rattle.vt_group.specs.ByNumber.{value_at};
-ghost use Rattle.vt_group.specs.Sets.{same_id, has, kept_in, same_group};
+ghost use Rattle.vt_group.specs.Sets.{has, kept_in, same_group};
 
 use crate::by_number::ByNumber;
 use crate::set::{self, Element, Set};

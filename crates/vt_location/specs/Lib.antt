@@ -1,5 +1,6 @@
 pub mod Numbers
 pub mod Births
+pub mod Fronts
 pub mod Locations
 pub mod MountValue
 pub mod NodeNumbers

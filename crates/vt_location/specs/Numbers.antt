@@ -6,6 +6,10 @@ use Rattle.vt_location.specs.declared.numbers.GroupId.{GroupId}
 use Rattle.vt_location.specs.declared.numbers.MountId.{MountId}
 use Rattle.vt_location.specs.declared.numbers.NamespaceId.{NamespaceId}
 
+-- the largest count of uses, mounts or writers: one more is refused
+abbrev pub most_counted : ℕ
+most_counted = 18446744073709551615
+
 -- the number of the mount, peer group, filesystem or namespace with this count
 abbrev pub counted : ℕ → ℕ
 counted count = 4 * count + 1
@@ -13,6 +17,10 @@ counted count = 4 * count + 1
 -- of a mount, a peer group, a filesystem, a mount namespace
 abbrev pub mount_number : MountId → ℕ
 mount_number mount = counted mount.count
+
+-- two numbers of mounts are one
+abbrev pub same_id : MountId → MountId → Bool
+same_id a b = nat_eq a.count b.count
 
 abbrev pub group_number : GroupId → ℕ
 group_number group = counted group.count

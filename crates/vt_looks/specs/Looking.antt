@@ -37,15 +37,3 @@ StaysFound looks here there =
 -- of an overlay, what is there lies only in lower layers
 abbrev pub is_only_below : Looks ℕ → meant.Location ℕ → Bool
 is_only_below looks at = overlay_or false (λ overlay. lies_only_in_lowers overlay at.node) (looks.overlay at)
-
--- what an inode and its real object have in common
-pub record Front : Type 0 where
-  pub attr : Attr
-  pub kind : Kind
-  pub bytes : List ℕ
-
-abbrev pub front_of : Node ℕ → Front
-front_of node = record { attr = node.attr; kind = kind_of node.content; bytes = bytes_of node.content }
-
-abbrev pub front : Option (Node ℕ) → Option Front
-front node = option_map front_of node

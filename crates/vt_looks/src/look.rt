@@ -12,12 +12,13 @@ ghost use Rattle.vt_spec.specs.Machine.Rules.Conditions.{has_no_upper, is_mount_
 ghost use Rattle.vt_spec.specs.Machine.Rules.Removing.{is_nonempty};
 ghost use Rattle.vt_spec.specs.Machine.Walking.{is_lost};
 ghost use Rattle.vt_spec.specs.Tree.{Node, entries_in, entry_named, parent_in};
+ghost use Rattle.vt_location.specs.Fronts.{front};
 ghost use Rattle.vt_cred.specs.Rights.{right_bits};
 ghost use Rattle.vt_location.specs.Locations.{location_of, number_of};
 ghost use Rattle.vt_location.specs.Numbers.{mount_number, namespace_number};
 ghost use Rattle.vt_permits.specs.GrantValue.{attachment_permit};
 ghost use Rattle.vt_looks.specs.Asking.{asked_at, asked_by};
-ghost use Rattle.vt_looks.specs.Looking.{IsGround, StaysFound, front, is_at_or_below, is_only_below, mount_seen};
+ghost use Rattle.vt_looks.specs.Looking.{IsGround, StaysFound, is_at_or_below, is_only_below, mount_seen};
 
 use crate::asked::Asked;
 use vt_cred::Rights;

@@ -7,11 +7,12 @@ use Rattle.vt_mount.specs.declared.standing.Standing.{Standing}
 use Rattle.vt_mount.specs.Indexes.{count_left, count_put, pushed, put_in_place, same_place, taken}
 use Rattle.vt_mount.specs.Listed.{count_of}
 use Rattle.vt_mount.specs.Orders.{numbers_order, standing_order}
-use Rattle.vt_mount.specs.Rising.{inserted, precedes, same_id}
+use Rattle.vt_mount.specs.Rising.{inserted, precedes}
 use Rattle.vt_mount.specs.Standing.{same_standing, stands_before}
 use Rattle.vt_mount.proofs.IndexLemmas.{same_mount_id}
 use Rattle.vt_mount.proofs.RisingLemmas.{others_by}
 use Rattle.vt_spec.proofs.Common.{and_true_left, and_true_right}
+use Rattle.vt_location.specs.Numbers.{same_id}
 
 pub count-inserted : {T : Type 0} (test : T → Bool) (before : T → T → Bool) (one : T) (list : List T)
     → count_of test (inserted before one list) ≡ count_put (test one) (count_of test list)

@@ -6,9 +6,8 @@ use Rattle.vt_spec.specs.Machine.Mounts as meant
 use Rattle.vt_location.specs.declared.numbers.MountId.{MountId}
 use Rattle.vt_location.specs.declared.numbers.NamespaceId.{NamespaceId}
 use Rattle.vt_location.specs.MountValue.{mount_of}
-use Rattle.vt_location.specs.Numbers.{counted}
+use Rattle.vt_location.specs.Numbers.{counted, same_id}
 use Rattle.vt_mount.specs.declared.mounted.Mounted.{Mounted}
-use Rattle.vt_mount.specs.Listed.{same_id}
 use Rattle.vt_mount.specs.MountsValue.{MountEntry, changed, entries_of, entry_numbered, entry_of, in_order, is_unused, mount_kept, mounts_in, without}
 use Rattle.vt_mount.proofs.IndexLemmas.{same_mount_id}
 use Rattle.vt_mount.proofs.OrderLemmas.{change_kept, found, found-in_order, in_order-changed, in_order-last, in_order-removed, is_above, length-in_order, tied, without_kept}

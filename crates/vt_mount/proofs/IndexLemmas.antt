@@ -1,12 +1,13 @@
 -- The lists of mounts, where one is put behind all others, changed or taken out.
 use Rattle.std.proofs.Common.{◌≡◌, Bool, true, false, cond, ◌&&◌, T, List, [], ◌∷◌, ◌++◌, map, filter, nat_lt, not, None, Some, refl, sym, ap, ◌∙◌, eq-eqb, is_eq, is_lt, Ordering, Less, Equal, Greater, eqb-true}
 use Rattle.vt_spec.proofs.Common.{T_and_left, T_and_right, and_true_left, and_true_right, below_all, eq_by_cmp}
+use Rattle.vt_location.specs.Numbers.{same_id}
 use Rattle.vt_location.specs.declared.mounts.Mount.{Mount}
 use Rattle.vt_location.specs.declared.numbers.MountId.{MountId}
 use Rattle.vt_mount.specs.declared.mounted.Mounted.{Mounted}
 use Rattle.vt_mount.specs.Indexed.{numbers_where}
 use Rattle.vt_mount.specs.Indexes.{pushed, taken}
-use Rattle.vt_mount.specs.Rising.{comes_last, precedes, same_id}
+use Rattle.vt_mount.specs.Rising.{comes_last, precedes}
 use Rattle.vt_mount.specs.MountsValue.{id_cmp, mount_kept}
 use Rattle.vt_mount.proofs.ListLemmas.{others}
 use Rattle.vt_mount.proofs.OrderLemmas.{change_kept, found, is_above, rises, tied, without_kept}

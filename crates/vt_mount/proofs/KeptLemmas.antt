@@ -1,6 +1,7 @@
 -- The lists stay right where a mount is attached, detached or taken out.
 use Rattle.std.proofs.Common.{◌≡◌, ℕ, Bool, true, false, cond, ◌&&◌, T, List, [], ◌∷◌, ◌++◌, map, not, nat_lt, None, Some, Result, Ok, Err, OnErr, OnOk, refl, sym, ap, ◌∙◌, true≢false, arith, eq-eqb, ne_eqb, IsOk, is_err, ltb-true}
 use Rattle.vt_spec.proofs.Common.{and_true_left, and_true_right, list_all}
+use Rattle.vt_location.specs.Numbers.{same_id}
 use Rattle.vt_location.specs.declared.locations.Location.{Location}
 use Rattle.vt_location.specs.declared.mounts.Mount.{Mount}
 use Rattle.vt_location.specs.declared.mounts.Propagation.TheVariants.{Private}
@@ -10,7 +11,7 @@ use Rattle.vt_mount.specs.declared.indexes.Indexes.{Indexes}
 use Rattle.vt_mount.specs.declared.mounted.Mounted.{Mounted}
 use Rattle.vt_mount.specs.Indexed.{IsIndexed, is_kept_small, numbers_where}
 use Rattle.vt_mount.specs.Indexes.{count_at, count_left, count_put, is_at, is_in, is_on, listed_in, listed_on, pushed, put_in_place, taken}
-use Rattle.vt_mount.specs.Listed.{count_of, same_id}
+use Rattle.vt_mount.specs.Listed.{count_of}
 use Rattle.vt_mount.specs.MountsValue.{MountEntry, mount_kept, without}
 use Rattle.vt_mount.proofs.ListLemmas.{others}
 use Rattle.vt_mount.specs.Rising.{comes_last, precedes}

@@ -9,11 +9,11 @@ use Rattle.vt_mount.specs.declared.indexes.Indexes.{Indexes}
 use Rattle.vt_mount.specs.declared.mounted.Mounted.{Mounted}
 use Rattle.vt_mount.specs.Indexed.{IsIndexed, is_kept_small, numbers_where}
 use Rattle.vt_mount.specs.Indexes.{count_at, count_left, count_put, is_at, is_in, is_on, listed_in, listed_on, relisted, stood_at, stood_on, taken}
-use Rattle.vt_mount.specs.Listed.{count_of, inserted, precedes, same_id}
+use Rattle.vt_mount.specs.Listed.{count_of, inserted, precedes}
 use Rattle.vt_mount.proofs.CountLemmas.{count-put_in_place, count-taken}
 use Rattle.vt_mount.specs.Moving.{is_small_point}
 use Rattle.vt_mount.specs.MountsValue.{are_ascending, entries_of, id_cmp, in_order, mount_kept, mounts_in}
-use Rattle.vt_location.specs.Numbers.{counted}
+use Rattle.vt_location.specs.Numbers.{counted, same_id}
 use Rattle.vt_mount.proofs.EntryLemmas.{entries}
 use Rattle.vt_mount.proofs.ListLemmas.{others}
 use Rattle.vt_mount.proofs.IndexLemmas.{absent-others, below-none, cons-numbers, numbers-changed, numbers-left, others-taken, passes, turned, same_mount_id}

@@ -4,11 +4,10 @@ use Rattle.vt_spec.proofs.Common.{holds_of, keys_of, list_any, lookup}
 use Rattle.std.specs.List.{IsDistinct}
 use Rattle.vt_spec.specs.Machine.Mounts as meant
 use Rattle.vt_location.specs.declared.numbers.MountId.{MountId}
-use Rattle.vt_location.specs.Numbers.{counted}
+use Rattle.vt_location.specs.Numbers.{counted, same_id}
 use Rattle.vt_location.proofs.AskedLemmas.{any_mapped, any_same, asked-in_order, holds_mapped}
 use Rattle.vt_mount.specs.declared.mounted.Mounted.{Mounted}
 use Rattle.vt_mount.specs.Named.{NameEach}
-use Rattle.vt_mount.specs.Listed.{same_id}
 use Rattle.vt_mount.specs.MountsValue.{MountEntry, entries_of, entry_of, in_order, mounts_in}
 use Rattle.vt_mount.proofs.EntryLemmas.{kept-mount, mount_under}
 use Rattle.vt_mount.proofs.OrderLemmas.{count_of, in_order-is}

@@ -1,13 +1,13 @@
 -- What is noted of a mount that moves.
 use Rattle.std.proofs.Common.{◌≡◌, Bool, true, false, cond, ◌&&◌, List, [], ◌∷◌, ◌++◌, map, Option, None, Some, option_map, sym, ap, ◌∙◌, append-nil, option_to_list, ℕ}
 use Rattle.vt_spec.proofs.Common.{Location as Place, and_true_left, and_true_right, eq_by_cmp, list_all, list_all-append, lookup, map-append}
+use Rattle.vt_location.specs.Numbers.{same_id}
 use Rattle.vt_location.specs.declared.locations.Location.{Location}
 use Rattle.vt_location.specs.declared.numbers.MountId.{MountId}
 use Rattle.vt_mount.specs.declared.mounted.Mounted.{Mounted}
 use Rattle.vt_mount.specs.declared.moving.NewPoint.{NewPoint}
 use Rattle.vt_mount.specs.declared.moving.Moved.{Moved}
 use Rattle.vt_mount.specs.Indexed.{is_kept_small}
-use Rattle.vt_mount.specs.Listed.{same_id}
 use Rattle.vt_mount.specs.Moving.{is_small_point, is_small, move_of, moves_by}
 use Rattle.vt_mount.specs.MountsValue.{MountEntry, entries_of, entry_of, id_cmp, in_order}
 use Rattle.vt_mount.proofs.EntryLemmas.{kept-entry}

@@ -3,10 +3,10 @@ use Rattle.std.proofs.Common.{◌≡◌, ℕ, Bool, cond, T, List, [], ◌∷◌
 use Rattle.vt_spec.proofs.Common.{eq_by_cmp, is_sorted, keys_of, list_all, lookup, put}
 use Rattle.std.specs.FinMap.Entries.{find}
 use Rattle.std.specs.List.{IsDistinct}
+use Rattle.vt_location.specs.Numbers.{same_id}
 use Rattle.vt_mount.specs.declared.mounted.Mounted.{Mounted}
 use Rattle.vt_location.specs.InOrder.{in_order_by}
 use Rattle.vt_location.specs.declared.numbers.MountId.{MountId}
-use Rattle.vt_mount.specs.Listed.{same_id}
 use Rattle.vt_mount.specs.MountsValue.{id_cmp, in_order}
 use Rattle.vt_location.proofs.OrderLemmas as sorted
 

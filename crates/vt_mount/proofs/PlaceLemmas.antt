@@ -9,11 +9,10 @@ use Rattle.vt_location.specs.declared.numbers.MountId.{MountId}
 use Rattle.vt_location.specs.declared.numbers.NamespaceId.{NamespaceId}
 use Rattle.vt_location.specs.Locations.{is_small_node, location_of, number_of}
 use Rattle.vt_location.specs.SameNodes.{same_node}
-use Rattle.vt_location.specs.Numbers.{counted}
+use Rattle.vt_location.specs.Numbers.{counted, same_id}
 use Rattle.vt_mount.specs.declared.mounted.Mounted.{Mounted}
 use Rattle.vt_mount.specs.Indexed.{is_kept_small, numbers_where}
 use Rattle.vt_mount.specs.Indexes.{is_at, is_in, is_on, is_over, same_namespace, same_place}
-use Rattle.vt_mount.specs.Listed.{same_id}
 use Rattle.vt_mount.specs.MountsValue.{mount_kept, mounts_in, stands_over}
 use Rattle.vt_mount.proofs.EntryLemmas.{entries, mount_under}
 use Rattle.vt_mount.proofs.IndexLemmas.{cons-numbers}

@@ -3,9 +3,8 @@ use Rattle.std.proofs.Common.{◌≡◌, ℕ, suc, zero, Bool, true, false, cond
 use Rattle.vt_spec.proofs.Common.{T_and_left, T_and_right, below_all, chain, child_at, eq_by_cmp, holds_of, last_or, list_any, lookup, or_false_left, or_false_right, same_location, stands_at, stands_on}
 use Rattle.vt_spec.specs.Machine.Mounts as meant
 use Rattle.vt_location.specs.declared.numbers.MountId.{MountId}
-use Rattle.vt_location.specs.Numbers.{counted}
+use Rattle.vt_location.specs.Numbers.{counted, same_id}
 use Rattle.vt_mount.specs.declared.mounted.Mounted.{Mounted}
-use Rattle.vt_mount.specs.Listed.{same_id}
 use Rattle.vt_mount.specs.MountsValue.{MountEntry, entries_of, id_cmp, in_order, mounts_in}
 use Rattle.vt_mount.proofs.EntryLemmas.{entries, found-mount, mount_under}
 use Rattle.vt_mount.proofs.OrderLemmas.{found, found-in_order, rises, rises-in_order, tied}

@@ -5,6 +5,7 @@ use Rattle.vt_location.specs.declared.locations.Location.{Location}
 use Rattle.vt_location.specs.declared.numbers.MountId.{MountId}
 use Rattle.vt_location.specs.declared.numbers.NamespaceId.{NamespaceId}
 use Rattle.std.specs.declared.cmp.PartialEq as equal
+use Rattle.vt_location.specs.Numbers.{same_id}
 use Rattle.vt_mount.specs.declared.ascending.Ordered as ordered
 use Rattle.vt_mount.specs.declared.indexes.Indexes.{Indexes}
 use Rattle.vt_mount.specs.declared.lists.ListsBy.{ListsBy}
@@ -12,7 +13,7 @@ use Rattle.vt_mount.specs.declared.moving.NewPoint.{NewPoint}
 use Rattle.vt_mount.specs.Reserved.{Reserves, ReservesBy, count_of, moved_places}
 use Rattle.vt_location.specs.SameNodes.{same_node}
 use Rattle.vt_mount.specs.Indexes.{same_namespace}
-use Rattle.vt_mount.specs.Listed.{reserved, same_id}
+use Rattle.vt_mount.specs.Listed.{reserved}
 
 count-first : {X : Type 0} (test : X → Bool) (xs ys : List X) → count_of test xs ≤ count_of test (xs ++ ys)
 count-first test [] ys = omega arith

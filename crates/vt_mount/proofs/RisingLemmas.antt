@@ -3,11 +3,12 @@ use Rattle.std.proofs.Common.{◌^◌, ◌≡◌, ◌<◌, ◌≤◌, ◌-◌, �
 use Rattle.vt_spec.proofs.Common.{and_true_left, and_true_right, get_or_from_slice_get, holds_of, not-true}
 use Rattle.std.specs.List.{AllWithin}
 use Rattle.std.specs.List.Sorted.{IsPartitionPoint, IsPartitionedBy}
+use Rattle.vt_location.specs.Numbers.{same_id}
 use Rattle.vt_deque.specs.declared.slice_deque.SliceDeque.{SliceDeque}
 use Rattle.vt_deque.proofs.DequeLemmas.{room-bounded}
 use Rattle.vt_location.specs.declared.numbers.MountId.{MountId}
 use Rattle.vt_mount.specs.Indexes.{pushed, put_in_place, taken}
-use Rattle.vt_mount.specs.Rising.{IsOrder, comes_last, inserted, none_below, precedes, rises, room_for, same_id}
+use Rattle.vt_mount.specs.Rising.{IsOrder, comes_last, inserted, none_below, precedes, rises, room_for}
 use Rattle.vt_mount.specs.Orders.{numbers_order}
 
 pub both : (a b : Bool) → a ≡ true → b ≡ true → (a && b) ≡ true

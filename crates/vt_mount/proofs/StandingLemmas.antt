@@ -2,6 +2,7 @@
 use Rattle.std.proofs.Common.{◌≡◌, ◌<◌, ◌≤◌, ◌+◌, ℕ, zero, suc, Bool, true, false, true≢false, cond, not, ◌&&◌, ◌||◌, T, List, [], ◌∷◌, Option, None, Some, option_and_then, filter, length, map, arith, nat_lt, refl, sym, ap, subst, ◌∙◌, slice_get}
 use Rattle.std.specs.List.Sorted.{IsPartitionPoint, IsPartitionedBy}
 use Rattle.vt_spec.proofs.Common.{T_and_left, T_and_right, and_true_left, and_true_right, below_all, eq_by_cmp, holds_of, list_any, nat_tests, not-true}
+use Rattle.vt_location.specs.Numbers.{same_id}
 use Rattle.vt_location.specs.declared.locations.Location.{Location}
 use Rattle.vt_location.specs.declared.locations.NodeRef.{NodeRef}
 use Rattle.vt_location.specs.declared.mounts.Mount.{Mount}
@@ -14,7 +15,7 @@ use Rattle.vt_mount.specs.Indexes.{count_put, is_at, is_over}
 use Rattle.vt_mount.specs.Listed.{count_of}
 use Rattle.vt_mount.specs.MountsValue.{id_cmp, mount_kept}
 use Rattle.vt_mount.specs.Orders.{numbers_order, standing_order}
-use Rattle.vt_mount.specs.Rising.{none_below, precedes, rises, same_id}
+use Rattle.vt_mount.specs.Rising.{none_below, precedes, rises}
 use Rattle.vt_mount.specs.Standing.{first_listed, listed_upon, same_standing, stands_before, upon}
 use Rattle.vt_mount.proofs.IndexLemmas.{below-none, cons-numbers, passes, same_mount_id, turned}
 use Rattle.vt_mount.proofs.MoveLemmas.{less-than}

@@ -2,14 +2,14 @@
 use Rattle.std.proofs.Common.{◌≡◌, ℕ, ◌+◌, ◌-◌, nat_eq, arith, Bool, true, false, cond, List, map, None, Some, option_map, refl, sym, ap, ◌∙◌, IsSome, is_some, unwrap_or, ◌&&◌, ◌∷◌, []}
 use Rattle.vt_spec.proofs.Common.{holds_of, list_all, lookup}
 use Rattle.indexmap.specs.IndexMap.{IndexMap, WritesThrough, get_by}
-use Rattle.vt_location.specs.Numbers.{counted}
+use Rattle.vt_location.specs.Numbers.{counted, same_id}
 use Rattle.vt_location.specs.declared.numbers.MountId.{MountId}
 use Rattle.vt_mount.specs.declared.indexes.Indexes.{Indexes}
 use Rattle.vt_mount.specs.declared.mounted.Mounted.{Mounted}
 use Rattle.vt_mount.specs.Indexed.{IsIndexed, is_kept_small, numbers_where}
 use Rattle.vt_location.specs.Locations.{is_small_node}
 use Rattle.vt_mount.specs.Indexes.{is_at, is_in, is_on, same_namespace, same_place}
-use Rattle.vt_mount.specs.Listed.{count_of as times, same_id}
+use Rattle.vt_mount.specs.Listed.{count_of as times}
 use Rattle.vt_mount.specs.MountsValue.{MountEntry, changed, entries_of, entry_of, held, in_order, released}
 use Rattle.vt_mount.proofs.EntryLemmas.{kept-changed}
 use Rattle.vt_mount.proofs.IndexLemmas.{numbers-changed}

@@ -1,6 +1,7 @@
 -- Mounts, and what lists them.
 use Rattle.std.specs.Prelude.{Bool, List, filter, map, true, ◌≡◌}
 use Rattle.std.specs.List.{list_all}
+use Rattle.vt_location.specs.Numbers.{same_id}
 use Rattle.vt_location.specs.declared.locations.Location.{Location}
 use Rattle.vt_location.specs.declared.mounts.Mount.{Mount}
 use Rattle.vt_location.specs.declared.numbers.MountId.{MountId}
@@ -8,7 +9,7 @@ use Rattle.vt_location.specs.declared.numbers.NamespaceId.{NamespaceId}
 use Rattle.vt_mount.specs.declared.indexes.Indexes.{Indexes}
 use Rattle.vt_mount.specs.declared.mounted.Mounted.{Mounted}
 use Rattle.vt_mount.specs.Indexes.{count_at, has_small_point, is_at, is_in, is_on, listed_in, listed_on}
-use Rattle.vt_mount.specs.Listed.{count_of, same_id}
+use Rattle.vt_mount.specs.Listed.{count_of}
 use Rattle.vt_mount.specs.MountsValue.{mount_kept}
 
 -- the numbers of the mounts that pass a test

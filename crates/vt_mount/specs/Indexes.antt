@@ -1,6 +1,7 @@
 -- The lists of mounts by namespace, parent and mount point.
 use Rattle.std.specs.Prelude.{Bool, List, Option, filter, if◌then◌else◌, not, option_map, true, unwrap_or, ℕ, [], ◌&&◌, ◌+◌, ◌++◌, ◌∷◌}
 use Rattle.vt_spec.specs.Lists.{holds_of}
+use Rattle.vt_location.specs.Numbers.{same_id}
 use Rattle.vt_location.specs.declared.locations.Location.{Location}
 use Rattle.vt_location.specs.declared.locations.NodeRef.{NodeRef}
 use Rattle.vt_location.specs.declared.mounts.Mount.{Mount}
@@ -11,7 +12,7 @@ use Rattle.vt_location.specs.SameNodes.{same_node}
 use Rattle.vt_mount.specs.declared.indexes.Indexes.{Indexes}
 use Rattle.vt_mount.specs.Listed.{count_of, listed}
 pub use Rattle.vt_mount.specs.Listed.{same_namespace}
-use Rattle.vt_mount.specs.Rising.{inserted, precedes, same_id}
+use Rattle.vt_mount.specs.Rising.{inserted, precedes}
 use Rattle.vt_mount.specs.Standing.{same_standing}
 
 abbrev pub same_place : Location → Location → Bool

@@ -4,10 +4,11 @@ use Rattle.std.specs.Map.{lookup}
 use Rattle.vt_location.specs.declared.numbers.MountId.{MountId}
 use Rattle.vt_location.specs.declared.numbers.NamespaceId.{NamespaceId}
 use Rattle.std.specs.declared.cmp.PartialEq as equal
+use Rattle.vt_location.specs.Numbers.{same_id}
 use Rattle.vt_mount.specs.declared.ascending.Ordered as ordered
 use Rattle.vt_mount.specs.declared.lists.ListsBy.{ListsBy}
 use Rattle.vt_mount.specs.Rising.{held}
-pub use Rattle.vt_mount.specs.Rising.{inserted, precedes, same_id}
+pub use Rattle.vt_mount.specs.Rising.{inserted, precedes}
 
 abbrev pub listed : {K T : Type 0} {o : ordered.Ghosts T} {e : equal.Ghosts T} → (K → K → Bool) → K → ListsBy K T o e → List T
 listed eq key lists = unwrap_or (option_map (λ list. held list.one list.many) (lookup (eq key) lists.lists.entries)) []

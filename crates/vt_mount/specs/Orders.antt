@@ -1,7 +1,8 @@
 -- The orders of lists: that of numbers, and that of what stands on an inode.
 use Rattle.std.proofs.Common.{refl, eq-eqb, arith}
 use Rattle.vt_spec.proofs.Common.{nat_tests}
-use Rattle.vt_mount.specs.Rising.{IsOrder, precedes, same_id}
+use Rattle.vt_location.specs.Numbers.{same_id}
+use Rattle.vt_mount.specs.Rising.{IsOrder, precedes}
 use Rattle.vt_mount.specs.Standing.{same_standing, stands_before}
 
 pub numbers_order : IsOrder precedes same_id

@@ -5,13 +5,14 @@ use Rattle.vt_location.specs.declared.locations.Location.{Location}
 use Rattle.vt_location.specs.declared.mounts.Mount.{Mount}
 use Rattle.vt_location.specs.declared.numbers.NamespaceId.{NamespaceId}
 use Rattle.std.specs.declared.cmp.PartialEq as equal
+use Rattle.vt_location.specs.Numbers.{same_id}
 use Rattle.vt_mount.specs.declared.ascending.Ordered as ordered
 use Rattle.vt_mount.specs.declared.indexes.Indexes.{Indexes}
 use Rattle.vt_mount.specs.declared.lists.ListsBy.{ListsBy}
 use Rattle.vt_mount.specs.declared.moving.NewPoint.{NewPoint}
 use Rattle.vt_location.specs.SameNodes.{same_node}
 use Rattle.vt_mount.specs.Indexes.{same_namespace}
-use Rattle.vt_mount.specs.Listed.{reserved, same_id}
+use Rattle.vt_mount.specs.Listed.{reserved}
 pub use Rattle.vt_mount.specs.Listed.{count_of}
 
 -- under each key there is room for those of them that it is the key of

@@ -5,9 +5,6 @@ use Rattle.vt_deque.specs.SliceDeque.{items, room}
 use Rattle.vt_deque.specs.declared.slice_deque.SliceDeque.{SliceDeque}
 use Rattle.vt_location.specs.declared.numbers.MountId.{MountId}
 
-abbrev pub same_id : MountId → MountId → Bool
-same_id a b = nat_eq a.count b.count
-
 -- one mount has a smaller number than another
 abbrev pub precedes : MountId → MountId → Bool
 precedes a b = nat_lt a.count b.count

@@ -1,8 +1,9 @@
 -- What stands on an inode: mounts, by the mounts that they stand on.
 use Rattle.std.specs.Prelude.{Bool, List, None, Option, Some, filter, if◌then◌else◌, map, slice_get, ◌&&◌, ◌||◌}
+use Rattle.vt_location.specs.Numbers.{same_id}
 use Rattle.vt_location.specs.declared.numbers.MountId.{MountId}
 use Rattle.vt_mount.specs.declared.standing.Standing.{Standing}
-use Rattle.vt_mount.specs.Rising.{precedes, same_id}
+use Rattle.vt_mount.specs.Rising.{precedes}
 
 abbrev pub same_standing : Standing → Standing → Bool
 same_standing a b = same_id a.parent b.parent && same_id a.mount b.mount

@@ -11,11 +11,10 @@ ghost use Rattle.vt_location.specs.declared.locations.Location.{Location};
 ghost use Rattle.vt_location.specs.declared.numbers.MountId.{MountId};
 ghost use Rattle.vt_location.specs.declared.numbers.NamespaceId.{NamespaceId};
 ghost use Rattle.vt_location.specs.MountValue.{mount_of};
-ghost use Rattle.vt_location.specs.Numbers.{mount_number};
+ghost use Rattle.vt_location.specs.Numbers.{mount_number, same_id};
 ghost use Rattle.vt_mount.specs.declared.mounted.Mounted.{Mounted};
 ghost use Rattle.vt_mount.specs.Reserved.{Reserves, mount_points_of, moved_places, namespaces_of};
 ghost use Rattle.vt_mount.specs.Indexed.{IsIndexed};
-ghost use Rattle.vt_mount.specs.Listed.{same_id};
 ghost use Rattle.vt_mount.specs.Moving.{all_moves, is_small, move_of, with_points};
 ghost use Rattle.vt_mount.specs.MountsValue.{ComeAfter, MountEntry, are_ascending, entries_of, in_order, mounts_in, unused_entry, without};
 

@@ -9,9 +9,9 @@ ghost use Rattle.vt_location.specs.Locations.{is_small_node};
 ghost use Rattle.vt_mount.specs.Indexes.{put_in_place, relisted, same_namespace, same_place};
 ghost use Rattle.vt_mount.specs.Moving.{is_small_point};
 ghost use Rattle.vt_mount.specs.Indexes.{stood_at, stood_on, taken};
-ghost use Rattle.vt_mount.specs.Rising.{same_id};
 ghost use Rattle.vt_mount.specs.declared.standing.Standing.{Standing};
 ghost use Rattle.vt_spec.specs.Lists.{holds_of};
+ghost use Rattle.vt_location.specs.Numbers.{same_id};
 
 use crate::lists::ListsBy;
 use crate::namespaces::MountsByNamespace;

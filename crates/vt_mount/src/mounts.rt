@@ -9,9 +9,8 @@ ghost use Rattle.vt_location.specs.declared.numbers.MountId.{MountId};
 ghost use Rattle.vt_cred.specs.MountFlags.{flags_of};
 ghost use Rattle.vt_location.specs.Locations.{location_of};
 ghost use Rattle.vt_location.specs.MountValue.{mount_of, propagation_of};
-ghost use Rattle.vt_location.specs.Numbers.{counted, mount_number};
+ghost use Rattle.vt_location.specs.Numbers.{counted, mount_number, same_id};
 ghost use Rattle.vt_mount.specs.Named.{NameEach};
-ghost use Rattle.vt_mount.specs.Listed.{same_id};
 ghost use Rattle.vt_mount.specs.MountsValue.{are_ascending, changed, held, mounts_in, released, uses_of, writers_of};
 ghost use Rattle.vt_mount.specs.Sources.{has_counted_source};
 

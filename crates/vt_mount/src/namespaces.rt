@@ -1,8 +1,9 @@
 //! The mounts of each namespace, and the most that one has had: mount_namespaces(7).
 ghost use Rattle.std.specs.Prelude.{◌≡◌, ◌+◌, ◌-◌, ◌<◌, ◌≤◌, [], filter, if◌then◌else◌, length, not, OnErr, OnOk};
+ghost use Rattle.vt_location.specs.Numbers.{same_id};
 ghost use Rattle.vt_location.specs.declared.numbers.NamespaceId.{NamespaceId};
 ghost use Rattle.vt_mount.specs.Listed.{NoneHasMore, listed, reserved, same_namespace};
-ghost use Rattle.vt_mount.specs.Rising.{inserted, precedes, same_id};
+ghost use Rattle.vt_mount.specs.Rising.{inserted, precedes};
 
 use crate::lists::ListsBy;
 use std::alloc::{AllocError, Global};

@@ -1,9 +1,10 @@
 //! Which mounts stand on an inode, and on which mounts.
 ghost use Rattle.std.specs.Prelude.{◌≡◌, IfOk, map, true};
+ghost use Rattle.vt_location.specs.Numbers.{same_id};
 ghost use Rattle.vt_location.specs.declared.numbers.MountId.{MountId};
 ghost use Rattle.vt_mount.specs.Listed.{count_of};
 ghost use Rattle.vt_mount.specs.Standing.{first_listed, stands_before, upon};
-ghost use Rattle.vt_mount.specs.Rising.{precedes, rises, same_id};
+ghost use Rattle.vt_mount.specs.Rising.{precedes, rises};
 ghost use Rattle.vt_mount.specs.Orders.{standing_order};
 
 use crate::ascending::{Ascending, Ordered};

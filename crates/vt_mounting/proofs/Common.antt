@@ -41,6 +41,7 @@ pub use Rattle.vt_laws_rules.specs.Numbers.{KeepsTo, location_named}
 pub use Rattle.vt_laws_trees.proofs.runs.answered.AlikeWorlds.{alike_from_same, sameness_is_an_equivalence}
 pub use Rattle.vt_laws_trees.proofs.trees.TreesOfWorlds.{number_numbered, numbered_all}
 pub use Rattle.vt_laws_trees.specs.Runs.Handed.{counts_from, handed_from, is_counted_before}
+pub use Rattle.vt_laws_trees.specs.Overlays.InOrder.{put_in}
 pub use Rattle.vt_laws_worlds.proofs.RaisedInUse.{all_in_use}
 pub use Rattle.vt_laws_worlds.proofs.one_text.same.SameNumbers.{any_same_worlds_keep_to_numbers}
 pub use Rattle.vt_laws_worlds.proofs.one_text.same.SameWhole.{any_same_worlds_are_worlds}
@@ -54,7 +55,7 @@ pub use Rattle.vt_laws_worlds.proofs.permits.taken.TakenNumbers.{counted_later}
 pub use Rattle.vt_laws_worlds.proofs.worlds.Roots.{directory_is_there}
 pub use Rattle.vt_laws_worlds.specs.Given.LeftWorlds.{IsGivenToTask}
 pub use Rattle.vt_laws_worlds.specs.OverlaysRead.Writers.{WritersHaveLayers}
-pub use Rattle.vt_laws_worlds.specs.OverlaysStay.Woven.{are_rising, put_in, woven}
+pub use Rattle.vt_laws_worlds.specs.OverlaysStay.Woven.{are_rising, woven}
 pub use Rattle.vt_laws_worlds.specs.Permits.Left.{IsGiven}
 pub use Rattle.vt_laws_worlds.specs.Permits.Named.{permit_named}
 pub use Rattle.vt_laws_worlds.specs.Permits.Taken.{is_ungrouped}

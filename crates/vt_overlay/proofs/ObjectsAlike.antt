@@ -1,6 +1,7 @@
 -- A node has what its real object has, but for names, parent and mark.
 use Rattle.std.proofs.Common.{◌≡◌, ◌∙◌, ◌∷◌, [], ap, map, None, Option, refl, Some, sym, ℕ, slice_get, option_map, arith}
 use Rattle.vt_spec.proofs.Common.{Content, Directory, Entries, Node, Regular, Shown, Symlink, Whiteout, layer_node, none_is_some, renamed_content, renamed_entry, same_Some, slice_get-map, then_some, common_steps}
+use Rattle.vt_location.specs.Fronts.{front}
 use Rattle.vt_location.proofs.NumberLemmas.{exchanged_back}
 use Rattle.vt_location.specs.Locations.{inode_of}
 use Rattle.vt_location.specs.Numbers.{exchanged}
@@ -8,7 +9,7 @@ use Rattle.vt_fs.specs.FilesystemsValue.{Filesystems, files_at, node_seen}
 use Rattle.vt_overlay.specs.Merge.LayerValue.{layer_of, seen_of}
 use Rattle.vt_overlay.specs.declared.merge.layers.LayerRef.{LayerRef}
 use Rattle.vt_overlay.specs.declared.merge.layers.Real.{Real}
-use Rattle.vt_overlay.specs.Alike.{ObjectsAreAlike, front, lent_at, real_inode, real_lent}
+use Rattle.vt_overlay.specs.Alike.{ObjectsAreAlike, lent_at, real_inode, real_lent}
 use Rattle.vt_overlay.specs.MergedTree.{AreLayers, OverlayValue, merged_tree, object_shown}
 use Rattle.vt_overlay.proofs.TreeFound.{layers, layers_are}
 

@@ -1,26 +1,13 @@
 -- What a node of an overlay has of its real object: the kernel's overlayfs document, "non-directories".
-use Rattle.std.specs.Prelude.{List, Option, nat_eq, option_map, slice_get, ℕ, ◌≡◌}
-use Rattle.vt_spec.specs.declared.attributes.Attr.{Attr}
-use Rattle.vt_spec.specs.declared.attributes.Kind.{Kind}
+use Rattle.std.specs.Prelude.{Option, nat_eq, option_map, slice_get, ℕ, ◌≡◌}
 use Rattle.vt_spec.specs.Lists.{then_some}
 use Rattle.vt_spec.specs.Machine.Invariants.{node_shown}
 use Rattle.vt_spec.specs.Machine.Layers.{Shown}
-use Rattle.vt_spec.specs.Tree.{Node, bytes_of, kind_of}
+use Rattle.vt_spec.specs.Tree.{Node}
+use Rattle.vt_location.specs.Fronts.{front}
 use Rattle.vt_fs.specs.FilesystemsValue.{Filesystems, files_at, node_seen}
 use Rattle.vt_overlay.specs.declared.merge.layers.LayerRef.{LayerRef}
 use Rattle.vt_overlay.specs.MergedTree.{OverlayValue, merged_tree, object_shown, overlay_seen, path_at, plain_world}
-
--- an inode without its entries, its parent and its mark
-pub record Front : Type 0 where
-  pub attr : Attr
-  pub kind : Kind
-  pub bytes : List ℕ
-
-abbrev pub front_of : Node ℕ → Front
-front_of node = record { attr = node.attr; kind = kind_of node.content; bytes = bytes_of node.content }
-
-abbrev pub front : Option (Node ℕ) → Option Front
-front node = option_map front_of node
 
 -- the inode of the real object of a node
 abbrev pub real_inode : Filesystems → OverlayValue → ℕ → Option (Node ℕ)

@@ -5,6 +5,7 @@ ghost use Rattle.vt_spec.specs.FileTree.{is_kind_in};
 ghost use Rattle.vt_spec.specs.Lists.{when};
 ghost use Rattle.vt_spec.specs.Machine.Layers.{shown};
 ghost use Rattle.vt_spec.specs.Tree.{entries_in, entry_named, is_directory_node, parent_in};
+ghost use Rattle.vt_location.specs.Fronts.{front};
 ghost use Rattle.vt_location.specs.Locations.{inode_of, is_small_node, number_of};
 ghost use Rattle.vt_location.specs.Numbers.{exchanged};
 ghost use Rattle.vt_location.specs.declared.births.Birth.TheVariants.{Below};
@@ -14,7 +15,7 @@ ghost use Rattle.vt_overlay.specs.Merge.LayerValue.{layers_of, seen_of};
 ghost use Rattle.vt_overlay.specs.declared.merge.layers.LayerRef.{LayerRef as Layer};
 ghost use Rattle.vt_overlay.specs.declared.merge.merging.TheConstants.{MOST_LAYERS};
 ghost use Rattle.vt_node.specs.Ranks.{rank_among};
-ghost use Rattle.vt_overlay.specs.Alike.{front, real_lent};
+ghost use Rattle.vt_overlay.specs.Alike.{real_lent};
 ghost use Rattle.vt_overlay.specs.MergedTree.{AreLayers, birth_at, born_below, born_here, merged_tree, number_at, object_shown, real_in};
 
 use crate::merge::{

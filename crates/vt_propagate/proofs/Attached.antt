@@ -1,6 +1,6 @@
 -- An attachment is what its plans say.
 use Rattle.std.proofs.Common.{◌≡◌, ℕ, false, List, [], ◌∷◌, ◌++◌, map, nat_eq, refl, sym, ap, ◌∙◌, arith, drop, length, take, ◌*◌, append_assoc, None, Option, flat_map, if◌then◌else◌, option_map}
-use Rattle.vt_spec.proofs.Common.{Location, Mount, World, added_mounts, common_steps, contains_from_among, copies_at, drop-append_seam, first_of_list, folded, holds_of, length-map, map_alike, masters_with, mount_at, parts_of, pushed_up, rest_of, take-append_seam, with_mount, with_moved_mounts}
+use Rattle.vt_spec.proofs.Common.{Location, Mount, World, added_mounts, common_steps, contains_from_among, copies_at, drop-append_seam, first_of_list, folded, holds_of, length-map, map_alike, masters_with, mount_at, parts_of, moved_onto_copy, rest_of, take-append_seam, with_mount, with_moved_mounts}
 use Rattle.vt_location.specs.Locations.{location_of}
 use Rattle.vt_location.specs.MountValue.{mount_of}
 use Rattle.vt_location.specs.Numbers.{counted}
@@ -51,7 +51,7 @@ attached_by_plans world graft counts copies points copies_are groups_are pushes 
 }
   where
     pushed : Mount ℕ → Mount ℕ
-    pushed = pushed_up nat_eq world (numbers_at world graft counts) (graft_in world graft counts)
+    pushed = moved_onto_copy nat_eq world (numbers_at world graft counts) (graft_in world graft counts)
         (parts_of nat_eq world (location_of graft.place))
 
     moved : List (Mount ℕ)

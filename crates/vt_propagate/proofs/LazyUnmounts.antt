@@ -1,6 +1,6 @@
 -- A lazy unmount, whose events detach mounts in turn, leaves the world from which all of them are detached at once.
 use Rattle.std.proofs.Common.{◌≡◌, refl, sym, ap, subst, ◌∙◌, ℕ, nat_eq, Bool, true, false, true≢false, ◌||◌, List, [], ◌∷◌, ◌++◌, Option, None, Some, option_map, is_some, ⊎_elim, Contains, flat_map, if◌then◌else◌, length}
-use Rattle.vt_spec.proofs.Common.{Location, Mount, MountInvariants, Stands, World, after_going, all_from_among, among_cases, among_numbers, at_root, contains_from_among, folded, going, going_at, has_child, head_among, is_among, is_going, lazily_unmounted, list_any-append, map_same, mount_numbered, mount_point_left, mount_point_of_parent, mount_tree, on_parent, regrouped, same_Some, settled, taken_away, unmounted, unmounted_if_there, with_mounts, without_dead_groups}
+use Rattle.vt_spec.proofs.Common.{Location, Mount, MountInvariants, Stands, World, after_going, all_from_among, among_cases, among_numbers, at_root, contains_from_among, folded, going, going_at, has_child, head_among, is_among, is_going, lazily_unmounted, list_any-append, map_same, mount_numbered, inherited_mount_point, mount_point_of_parent, mount_tree, on_parent, regrouped, same_Some, settled, taken_away, unmounted, unmounted_if_there, with_mounts, without_dead_groups}
 use Rattle.vt_group.specs.Grouping.{Grouping, are_rising, peers_of}
 use Rattle.vt_group.proofs.Together.{regrouped_living}
 use Rattle.vt_laws_mounts.specs.LettingGo.Several.{KeepsMounts}
@@ -29,7 +29,7 @@ nothing_taken world kept = ap (λ mounts. regrouped nat_eq (with_mounts world mo
       mount_point = stays mount.mount_point i;
     })) ∙ regrouped_living world kept.groups
   where
-    stays : (o : Option (Location ℕ)) → option_map (mount_point_left nat_eq world []) o ≡ o
+    stays : (o : Option (Location ℕ)) → option_map (inherited_mount_point nat_eq world []) o ≡ o
     stays None = refl
     stays (Some place) = ap Some (end-here (mount_point_of_parent nat_eq world []) (length world.mounts) place refl)
 

@@ -1,6 +1,6 @@
 -- A tree of mounts moves: what its plans say of the world then.
 use Rattle.std.proofs.Common.{◌≡◌, ℕ, Bool, true, false, ◌&&◌, List, [], ◌∷◌, ◌⊎◌, inl, inr, ⊎_elim, map, nat_eq, Option, None, Some, is_some, refl, sym, ap, subst, true≢false, ◌∙◌, eq-eqb, Contains, if◌then◌else◌, option_map, unwrap_or, arith}
-use Rattle.vt_spec.proofs.Common.{Among, Copies, Location, Mount, Twig, World, among-from_map, among-map, among_from_all, common_steps, contains_from_among, copies_at, copy_at, copy_number, first_of_list, folded, group_of, holds_of, is_top, mount_at, mount_point_on_copy, nat_eq-swapped, number-mount_in, or_else, parts_of, pushed_onto, pushed_up, replaced_if_same, rest_of, same_location, stands_at, twig_of, with_mount}
+use Rattle.vt_spec.proofs.Common.{Among, Copies, Location, Mount, Twig, World, among-from_map, among-map, among_from_all, common_steps, contains_from_among, copies_at, copy_at, copy_number, first_of_list, folded, group_of, holds_of, is_top, mount_at, mount_point_on_copy, nat_eq-swapped, number-mount_in, or_else, parts_of, pushed_onto, moved_onto_copy, replaced_if_same, rest_of, same_location, stands_at, twig_of, with_mount}
 use Rattle.vt_spec.specs.Machine.Attach as meant
 use Rattle.vt_location.specs.Locations.{location_of}
 use Rattle.vt_location.specs.MountValue.{mount_of}
@@ -77,7 +77,7 @@ module _ {world : World ℕ} (graft : Graft) (counts : Counts) (points : List (�
 
   -- a mount as the move leaves it
   abbrev pub pushed : Mount ℕ → Mount ℕ
-  pushed = pushed_up nat_eq world new seen parts
+  pushed = moved_onto_copy nat_eq world new seen parts
 
   -- the copies of the tree that moves, at its new place
   abbrev pub moved : List (Mount ℕ)

@@ -1,7 +1,7 @@
 -- Mounts that are detached in two parts, one after the other: but for groups without members the world is the one from
 -- which all of them are detached at once.
 use Rattle.std.proofs.Common.{◌≡◌, refl, sym, ap, subst, ◌∙◌, ℕ, zero, suc, arith, nat_eq, Bool, true, false, true≢false, ◌||◌, List, [], ◌∷◌, ◌++◌, map, length, Option, None, Some, option_map, ◌≤◌, if◌then◌else◌}
-use Rattle.vt_spec.proofs.Common.{Among, HasLivingGroups, Lives, Location, Mount, MountInvariants, Private, Propagation, Shared, Slave, Unbindable, World, after_going, among-from_map, among-map, among_from_all, detached, group_of, has_master, has_members, has_no_master, heir, holds_of, inherited, inheriting, is_going, is_member_of, length-map, list_any-append, map_alike, map_twice, mount_at, mount_point_left, mount_point_of_parent, none_among, none_from_among, slave_of_heir, source_of, taken_away, without_dead_groups}
+use Rattle.vt_spec.proofs.Common.{Among, HasLivingGroups, Lives, Location, Mount, MountInvariants, Private, Propagation, Shared, Slave, Unbindable, World, after_going, among-from_map, among-map, among_from_all, detached, group_of, has_master, has_members, has_no_master, heir, holds_of, inherited, inheriting, is_going, is_member_of, length-map, list_any-append, map_alike, map_twice, mount_at, inherited_mount_point, mount_point_of_parent, none_among, none_from_among, slave_of_heir, source_of, taken_away, without_dead_groups}
 use Rattle.vt_group.proofs.Heirs.{heir_above, heir_itself, master_inherited}
 use Rattle.vt_group.proofs.Living.{group_lives}
 use Rattle.vt_group.proofs.Receiving.{Ends, living_ends}
@@ -86,7 +86,7 @@ module _ (world : World ℕ) (first second : List ℕ) where
   fallen_point place stays e = ap (λ (mount : Mount ℕ). mount.mount_point) (taken world first place.mount)
       ∙ ap (λ (mount : Mount ℕ). mount.mount_point) (staying_is_placed world first (mount_at nat_eq world place)
       (ap (is_going nat_eq first) (number-mount_in world.mounts place.mount) ∙ stays))
-      ∙ ap (option_map (mount_point_left nat_eq world first)) e
+      ∙ ap (option_map (inherited_mount_point nat_eq world first)) e
 
   fall_further : (a b c : ℕ) (place : Location ℕ) {below : Location ℕ} → down place ≡ Some below
       → FallAlike a (suc b) c below → FallAlike (length world.mounts) b c below
@@ -153,8 +153,8 @@ module _ (world : World ℕ) (first second : List ℕ) where
 
     abbrev points_alike : Option (Location ℕ) → Type 0
     points_alike o =
-        option_map (mount_point_left nat_eq left second) (option_map (mount_point_left nat_eq world first) o)
-        ≡ option_map (mount_point_left nat_eq world (first ++ second)) o
+        option_map (inherited_mount_point nat_eq left second) (option_map (inherited_mount_point nat_eq world first) o)
+        ≡ option_map (inherited_mount_point nat_eq world (first ++ second)) o
 
     same_points : (o : Option (Location ℕ)) → points_alike o
     same_points None = refl
@@ -207,11 +207,11 @@ module _ (world : World ℕ) (first second : List ℕ) where
       alike mount =
           let one = is_going nat_eq first mount.number in
           let other = is_going nat_eq second mount.number in
-          ap (λ b. group_if b (mount_point_left nat_eq left second)
+          ap (λ b. group_if b (inherited_mount_point nat_eq left second)
           (inheriting nat_eq firstly (after_going nat_eq world first mount))) (twice_goes mount)
-          ∙ same_group one other (mount_point_left nat_eq world first) (mount_point_left nat_eq left second)
-          (mount_point_left nat_eq world (first ++ second)) mount
-          ∙ ap (λ b. group_if b (mount_point_left nat_eq world (first ++ second)) mount)
+          ∙ same_group one other (inherited_mount_point nat_eq world first) (inherited_mount_point nat_eq left second)
+          (inherited_mount_point nat_eq world (first ++ second)) mount
+          ∙ ap (λ b. group_if b (inherited_mount_point nat_eq world (first ++ second)) mount)
           (sym (goes_at_once mount.number))
 
   -- who is a member at the end is one after the first part
@@ -220,8 +220,8 @@ module _ (world : World ℕ) (first second : List ℕ) where
   members_before group has = by (has_members nat_eq firstly.mounts group) refl
     where
       still : (one other : Bool) (mount : Mount ℕ)
-          → holds_of (nat_eq group) (group_if one (mount_point_left nat_eq world first) mount) ≡ false
-          → holds_of (nat_eq group) (group_if (one || other) (mount_point_left nat_eq world (first ++ second)) mount)
+          → holds_of (nat_eq group) (group_if one (inherited_mount_point nat_eq world first) mount) ≡ false
+          → holds_of (nat_eq group) (group_if (one || other) (inherited_mount_point nat_eq world (first ++ second)) mount)
           ≡ false
       still true other mount e = refl
       still false true mount e = refl
@@ -232,7 +232,7 @@ module _ (world : World ℕ) (first second : List ℕ) where
           let from = among-from_map (after_going nat_eq world (first ++ second)) world.mounts x m in
           let mount = from.0 in
           ap (is_member_of nat_eq group) from.2
-          ∙ ap (λ b. holds_of (nat_eq group) (group_if b (mount_point_left nat_eq world (first ++ second)) mount))
+          ∙ ap (λ b. holds_of (nat_eq group) (group_if b (inherited_mount_point nat_eq world (first ++ second)) mount))
           (goes_at_once mount.number)
           ∙ still (is_going nat_eq first mount.number) (is_going nat_eq second mount.number) mount
           (none_among (is_member_of nat_eq group) firstly.mounts e (after_going nat_eq world first mount)
@@ -312,7 +312,7 @@ module _ (world : World ℕ) (first second : List ℕ) where
             ∙ none_from_among (is_member_of nat_eq group) at_once.mounts (λ x m.
             let from = among-from_map (after_going nat_eq world (first ++ second)) world.mounts x m in
             ap (is_member_of nat_eq group) from.2
-            ∙ still (is_going nat_eq (first ++ second) from.0.number) (mount_point_left nat_eq world (first ++ second))
+            ∙ still (is_going nat_eq (first ++ second) from.0.number) (inherited_mount_point nat_eq world (first ++ second))
             from.0 (none_among (is_member_of nat_eq group) world.mounts e from.0 from.1))))
 
         above : LivesAt group → SameHeir (world.master group)
@@ -321,9 +321,9 @@ module _ (world : World ℕ) (first second : List ℕ) where
 
   module _ (kept : MountInvariants nat_eq world) where
     mount_alike : (one other : Bool) (mount : Mount ℕ) → Among mount world.mounts
-        → inheriting nat_eq secondly (gone_if other (mount_point_left nat_eq left second)
-        (inheriting nat_eq firstly (gone_if one (mount_point_left nat_eq world first) mount)))
-        ≡ inheriting nat_eq at_once (gone_if (one || other) (mount_point_left nat_eq world (first ++ second)) mount)
+        → inheriting nat_eq secondly (gone_if other (inherited_mount_point nat_eq left second)
+        (inheriting nat_eq firstly (gone_if one (inherited_mount_point nat_eq world first) mount)))
+        ≡ inheriting nat_eq at_once (gone_if (one || other) (inherited_mount_point nat_eq world (first ++ second)) mount)
     mount_alike true true mount m = refl
     mount_alike true false mount m = refl
     mount_alike false true mount m = refl
@@ -338,10 +338,10 @@ module _ (world : World ℕ) (first second : List ℕ) where
         ∙ map_twice (inheriting nat_eq secondly) twice world.mounts
         ∙ map_alike (λ mount. inheriting nat_eq secondly (twice mount))
         (λ mount. inheriting nat_eq at_once (after_going nat_eq world (first ++ second) mount)) world.mounts (λ mount m.
-        ap (λ b. inheriting nat_eq secondly (gone_if b (mount_point_left nat_eq left second)
+        ap (λ b. inheriting nat_eq secondly (gone_if b (inherited_mount_point nat_eq left second)
         (inheriting nat_eq firstly (after_going nat_eq world first mount)))) (twice_goes mount)
         ∙ mount_alike (is_going nat_eq first mount.number) (is_going nat_eq second mount.number) mount m
-        ∙ ap (λ b. inheriting nat_eq at_once (gone_if b (mount_point_left nat_eq world (first ++ second)) mount))
+        ∙ ap (λ b. inheriting nat_eq at_once (gone_if b (inherited_mount_point nat_eq world (first ++ second)) mount))
         (sym (goes_at_once mount.number)))
         ∙ sym (map_twice (inheriting nat_eq at_once) (after_going nat_eq world (first ++ second)) world.mounts)
         ∙ sym (mounts-regrouped at_once)

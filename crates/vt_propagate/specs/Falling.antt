@@ -3,14 +3,13 @@ use Rattle.std.specs.Prelude.{List, None, Option, Some, [], false, filter_map, f
 use Rattle.std.specs.List.{list_any}
 use Rattle.std.specs.Map.{lookup}
 use Rattle.vt_spec.specs.Lists.{or_else, then_some}
-use Rattle.vt_spec.specs.Machine.Detach.{is_going, mount_point_left, taken_away}
+use Rattle.vt_spec.specs.Machine.Detach.{is_going, inherited_mount_point, taken_away}
 use Rattle.vt_spec.specs.Machine.Mounts.{Location, Mount, children, detached}
 use Rattle.vt_spec.specs.Machine.Receives.{regrouped}
 use Rattle.vt_spec.specs.Machine.World.{World, mount_numbered, with_mounts}
 use Rattle.vt_location.specs.Locations.{location_of}
 use Rattle.vt_location.specs.declared.numbers.MountId.{MountId}
-use Rattle.vt_location.specs.Numbers.{counted, mount_number}
-use Rattle.vt_mount.specs.Listed.{same_id}
+use Rattle.vt_location.specs.Numbers.{counted, mount_number, same_id}
 use Rattle.vt_mount.specs.declared.moving.NewPoint.{NewPoint}
 
 abbrev pub point_of : NewPoint → ℕ × Location ℕ
@@ -32,7 +31,7 @@ LeavesBy world gone points = taken_away nat_eq world gone
 abbrev pub FallsTo : World ℕ → List ℕ → ℕ × Location ℕ → Type 0
 FallsTo world gone point =
     (is_going nat_eq gone point.0 ≡ false)
-    × (option_map (mount_point_left nat_eq world gone) (mount_numbered nat_eq world point.0).mount_point ≡ Some point.1)
+    × (option_map (inherited_mount_point nat_eq world gone) (mount_numbered nat_eq world point.0).mount_point ≡ Some point.1)
 
 -- By the list of mounts alone
 
@@ -45,7 +44,7 @@ of_mounts mounts =
 abbrev pub point_left : List (Mount ℕ) → List ℕ → Mount ℕ → Option (ℕ × Location ℕ)
 point_left mounts gone mount =
     if is_going nat_eq gone mount.number then None
-    else option_map (λ place. (mount.number, mount_point_left nat_eq (of_mounts mounts) gone place)) mount.mount_point
+    else option_map (λ place. (mount.number, inherited_mount_point nat_eq (of_mounts mounts) gone place)) mount.mount_point
 
 abbrev pub point_left_of : List (Mount ℕ) → List ℕ → ℕ → Option (ℕ × Location ℕ)
 point_left_of mounts gone number =

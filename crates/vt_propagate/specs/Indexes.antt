@@ -7,8 +7,7 @@ use Rattle.vt_spec.specs.Machine.Receives.{is_member_of}
 use Rattle.vt_location.specs.declared.numbers.GroupId.{GroupId}
 use Rattle.vt_location.specs.declared.numbers.MountId.{MountId}
 use Rattle.vt_location.specs.MountValue.{mount_of}
-use Rattle.vt_location.specs.Numbers.{counted}
-use Rattle.vt_mount.specs.Listed.{same_id}
+use Rattle.vt_location.specs.Numbers.{counted, same_id}
 use Rattle.vt_propagate.specs.declared.copying.Graft.{Graft}
 use Rattle.vt_propagate.specs.declared.indexes.Indexes.{Indexes}
 use Rattle.vt_group.specs.Sets.{same_group}

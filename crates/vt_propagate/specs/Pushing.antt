@@ -3,7 +3,7 @@ use Rattle.std.specs.Prelude.{Contains, List, None, Option, Some, [], drop, fals
 use Rattle.std.specs.List.{cons_option, list_all}
 use Rattle.std.specs.Map.{lookup}
 use Rattle.vt_spec.specs.Lists.{any_pair, first_of_list, holds_of, is_among, then_some}
-use Rattle.vt_spec.specs.Machine.Attach.{parts_of, pushed_up, top_of_copies}
+use Rattle.vt_spec.specs.Machine.Attach.{parts_of, moved_onto_copy, top_of_copies}
 use Rattle.vt_spec.specs.Machine.Invariants.{share_a_mount_point}
 use Rattle.vt_spec.specs.Machine.Mounts.{Location, Mount, child_at}
 use Rattle.vt_spec.specs.Machine.World.{World}
@@ -24,7 +24,7 @@ abbrev pub PushesBy : World ℕ → Graft → Counts → List (ℕ × Location �
 PushesBy world graft counts points =
     (before mount : Mount ℕ) → Contains world.mounts before → holds_of (nat_eq before.number) (leaver graft) ≡ false
     → mount.number ≡ before.number → mount.mount_point ≡ before.mount_point
-    → pushed_up nat_eq world (numbers_at world graft counts) (graft_in world graft counts)
+    → moved_onto_copy nat_eq world (numbers_at world graft counts) (graft_in world graft counts)
     (parts_of nat_eq world (location_of graft.place)) mount
     ≡ moved_by points mount
 

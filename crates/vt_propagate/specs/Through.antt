@@ -3,7 +3,7 @@
 use Rattle.std.specs.Prelude.{Bool, List, None, Option, Some, filter_map, find, if◌then◌else◌, is_some, length, map, nat_eq, not, suc, zero, ℕ, ◌&&◌, ◌||◌, [], ◌∷◌}
 use Rattle.std.specs.List.{list_all}
 use Rattle.vt_spec.specs.Lists.{holds_of, then_some, when}
-use Rattle.vt_spec.specs.Machine.Detach.{covers_root, is_going, mount_point_left}
+use Rattle.vt_spec.specs.Machine.Detach.{covers_root, is_going, inherited_mount_point}
 use Rattle.vt_spec.specs.Machine.Mounts.{Location, Mount, child_at, children, root_of}
 use Rattle.vt_spec.specs.Machine.Receives.{receivers}
 use Rattle.vt_spec.specs.Machine.World.{World, mount_numbered}
@@ -56,7 +56,7 @@ group_at_then mounts gone place = if is_going nat_eq gone place.mount then None 
 abbrev pub shared_point_then : List (Mount ℕ) → List ℕ → ℕ → Option (Location ℕ × ℕ)
 shared_point_then mounts gone number =
     then_some (then_some (find (λ mount. nat_eq number mount.number) mounts) (λ mount. mount.mount_point))
-    (λ place. group_at_then mounts gone (mount_point_left nat_eq (of_mounts mounts) gone place))
+    (λ place. group_at_then mounts gone (inherited_mount_point nat_eq (of_mounts mounts) gone place))
 
 -- the mounts that an unmount of this one detaches then
 abbrev pub going_by : World ℕ → List ℕ → ℕ → Option (Location ℕ × ℕ) → List ℕ

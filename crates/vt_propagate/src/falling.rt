@@ -2,7 +2,7 @@
 //! semantics".
 ghost use Rattle.std.specs.Prelude.{◌≡◌, ◌++◌, All, IfOk, OnOk, filter_map, map, nat_eq, option_map, ℕ};
 ghost use Rattle.std.specs.List.{list_any};
-ghost use Rattle.vt_spec.specs.Machine.Detach.{is_going, mount_point_left, mount_point_of_parent};
+ghost use Rattle.vt_spec.specs.Machine.Detach.{is_going, inherited_mount_point, mount_point_of_parent};
 ghost use Rattle.vt_spec.specs.Machine.Mounts.{stands_on};
 ghost use Rattle.vt_spec.specs.Machine.World.{World};
 ghost use Rattle.vt_location.specs.Locations.{location_of};
@@ -148,7 +148,7 @@ fn point_left(mounts: &Mounts, gone: &Gone, id: MountId) -> Option<NewPoint>
 pub(crate) fn place_left(mounts: &Mounts, gone: &Gone, place: Location) -> Location
     requires { IsKnown gone.now.set.now.keys gone.now.ids.now }
     ensures { location_of result
-        ≡ mount_point_left nat_eq (of_mounts (mounts_in mounts.now)) (map mount_number gone.now.ids.now)
+        ≡ inherited_mount_point nat_eq (of_mounts (mounts_in mounts.now)) (map mount_number gone.now.ids.now)
         (location_of place) }
 {
     let mut here = place;

@@ -6,9 +6,8 @@ ghost use Rattle.vt_spec.specs.Machine.Mounts.{group_of};
 ghost use Rattle.vt_location.specs.declared.numbers.GroupId.{GroupId};
 ghost use Rattle.vt_location.specs.declared.numbers.MountId.{MountId};
 ghost use Rattle.vt_location.specs.MountValue.{mount_of, propagation_of};
-ghost use Rattle.vt_location.specs.Numbers.{mount_number, group_number};
+ghost use Rattle.vt_location.specs.Numbers.{group_number, mount_number, same_id};
 ghost use Rattle.vt_propagate.specs.declared.copying.Graft.{Graft};
-ghost use Rattle.vt_mount.specs.Listed.{same_id};
 ghost use Rattle.vt_propagate.specs.Indexes.{IsIndexed, place_of, place_of_group};
 ghost use Rattle.vt_group.specs.Sets.{same_group};
 

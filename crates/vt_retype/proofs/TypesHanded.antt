@@ -1,8 +1,9 @@
 -- The types of mounts where a group ends and its slaves get its master, one after another.
 use Rattle.std.proofs.Common.{◌≡◌, ℕ, Bool, true, false, true≢false, ◌||◌, List, [], ◌∷◌, map, nat_eq, nat_lt, Option, None, Some, is_some, refl, ap, sym, ◌∙◌, cond, arith, eqb-true, ltb-true, find, if◌then◌else◌}
 use Rattle.vt_spec.proofs.Common.{Among, Mount, Private, Propagation, Shared, Slave, Unbindable, among_from_all, and_parts, is_among, is_unbindable, list_all, map_alike, map_same, map_twice, nat_eq-swapped, same_Some, source_of}
+use Rattle.vt_spec.specs.Machine.Receives.{slave_of_heir}
 use Rattle.vt_group.specs.Grouping.{Grouping, master_in, propagation_in}
-use Rattle.vt_group.specs.Leaving.{lone_group, slave_or_private, type_after_end, type_once_ended}
+use Rattle.vt_group.specs.Leaving.{lone_group, type_after_end, type_once_ended}
 use Rattle.vt_mount.specs.MountsValue.{MountEntry, are_ascending, changed, mounts_in}
 use Rattle.vt_retype.specs.Leaving.{HaveSources, OnlyTypesChange, after_end, after_end_of, once_left}
 use Rattle.vt_retype.specs.Retyping.{retyped, typed_entry, with_kind}
@@ -20,15 +21,15 @@ module _ (lost : ℕ) (heir : Option ℕ) where
       own above true = refl
       own above false = refl
 
-      given : (o : Option ℕ) → type_after_end lost o (slave_or_private o) ≡ slave_or_private o
+      given : (o : Option ℕ) → type_after_end lost o (slave_of_heir o) ≡ slave_of_heir o
       given None = refl
       given (Some above) = own above (nat_eq above lost)
 
       by : (b : Bool) → nat_eq master lost ≡ b
-          → type_after_end lost heir (if b then slave_or_private heir else Slave master)
-          ≡ (if b then slave_or_private heir else Slave master)
+          → type_after_end lost heir (if b then slave_of_heir heir else Slave master)
+          ≡ (if b then slave_of_heir heir else Slave master)
       by true is = given heir
-      by false is = ap (λ b. if b then slave_or_private heir else Slave master) is
+      by false is = ap (λ b. if b then slave_of_heir heir else Slave master) is
   after_end-twice Private = refl
   after_end-twice Unbindable = refl
 
@@ -36,7 +37,7 @@ module _ (lost : ℕ) (heir : Option ℕ) where
   bindable_after_end (Shared group) = refl
   bindable_after_end (Slave master) = by (nat_eq master lost) heir
     where
-      by : (b : Bool) (o : Option ℕ) → is_unbindable (if b then slave_or_private o else Slave master) ≡ false
+      by : (b : Bool) (o : Option ℕ) → is_unbindable (if b then slave_of_heir o else Slave master) ≡ false
       by true None = refl
       by true (Some above) = refl
       by false o = refl
@@ -49,7 +50,7 @@ module _ (lost : ℕ) (heir : Option ℕ) where
   others_after_end (Shared group) apart = refl
   others_after_end (Slave master) apart = by (nat_eq master lost) refl
     where
-      by : (b : Bool) → nat_eq master lost ≡ b → (if b then slave_or_private heir else Slave master) ≡ Slave master
+      by : (b : Bool) → nat_eq master lost ≡ b → (if b then slave_of_heir heir else Slave master) ≡ Slave master
       by true is = absurd (apart (ap Some (eqb-true master lost is)))
       by false is = refl
   others_after_end Private apart = refl

@@ -50,7 +50,7 @@ pub use Rattle.vt_spec.proofs.Tables.{overlay_mounted, with_new}
 pub use Rattle.vt_spec.proofs.Trees.{found, led-append, reached_named, root_reached}
 pub use Rattle.vt_spec.proofs.Truths.{T_and, T_and_left, T_and_right, and_true_first, and_true_left, and_true_right, bytes_eq_itself, nat_eq-swapped, nat_eq_false_turned, nat_eq_itself, nat_eq_turned, not_turned, one_more_is_some, or_false_alone, or_false_left, or_false_right, same_truth}
 pub use Rattle.vt_spec.proofs.Walk.{file_or_symlink, file_walked, followed, hop, is_lost, last_walked, new_name_rules, parent_location, path_walked, prefix_walked}
-pub use Rattle.vt_spec.proofs.Worlds.{among-folded_mounts, answer-finished_by, filesystems-taken_away, filesystems-without_replaced, found_or_none, layers_of_all, name-replaced_if_called, nothing_is_no_object, number-mount_in, number-only_used, number-pivoted_mount, root-without_parent, same_location_is, same_name-swapped, same_name_itself, same_task_name, shown-mapped, shown-taken_away, shown-without_replaced, special_word, stands_alike, tasks-taken_away, tasks-with_change, tasks-without_replaced, tree_among, upper_real}
+pub use Rattle.vt_spec.proofs.Worlds.{among-folded_mounts, answer-finished_unless, filesystems-taken_away, filesystems-without_replaced, found_or_none, layers_of_all, name-replaced_if_called, nothing_is_no_object, number-mount_in, number-only_used, number-pivoted_mount, root-without_parent, same_location_is, same_name-swapped, same_name_itself, same_task_name, shown-mapped, shown-taken_away, shown-without_replaced, special_word, stands_alike, tasks-taken_away, tasks-with_change, tasks-without_replaced, tree_among, upper_real}
 pub use Rattle.vt_spec.specs.Errors.{NoneFails, Rules, and_then, denial, unless}
 pub use Rattle.vt_spec.specs.FileTree.{FileTree, a_name, ancestors, attr_in, has_entry_to, is_directory_under, is_file_under, is_kind, is_kind_in, is_opaque_in, is_removed, is_under, name_in, named_parent, opaque_of, own_name, path_down, symlink_text, targets_in}
 pub use Rattle.vt_spec.specs.Fits.{Fits, MayReplace}
@@ -76,11 +76,11 @@ pub use Rattle.vt_spec.specs.Language.Script.Who.{Nobody, Someone}
 pub use Rattle.vt_spec.specs.Laws.Trees.{IsNewIn}
 pub use Rattle.vt_spec.specs.Lists.{Fresh, any_pair, before_first, chain, counted_from, each_once, evens, first_of_list, folded, holds_of, index_from, is_among, is_empty_list, last_or, odds, or_else, prefixes, rest_of, same_list, same_option, then_some, when, without_last}
 pub use Rattle.vt_spec.specs.Machine.Apply.{apply, changed_if, filesystems_changed, overfills, stat_line, with_new_inode}
-pub use Rattle.vt_spec.specs.Machine.Attach.{Copies, Graft, Twig, added_mounts, all_groups_made, attach, attached_at, attached_by, bind_tree, bindable_children, bindable_tree, bound, bound_at, copies_at, copies_from, copy_at, copy_mount_point, copy_number, copy_type, graft_of, group_made, has_too_many, image, index_in_rows, index_of_group, is_destination, is_top, masters_with, mount_point_on_copy, moved_to, moved_tree, nearest_image, parts_of, pushed_onto, pushed_up, receiver_stood_on, receivers_of, stands_under, takes_part, top_of_copies, twig_master, twig_of, type_at, type_at_part, type_on_shared, with_moved_mounts}
+pub use Rattle.vt_spec.specs.Machine.Attach.{Copies, Graft, Twig, added_mounts, all_groups_made, attach, attached_at, attached_by, bind_tree, bindable_children, bindable_tree, bound, bound_at, copies_at, copies_from, copy_at, copy_mount_point, copy_number, copy_type, graft_of, group_made, has_too_many, image, index_in_rows, index_of_group, is_destination, is_top, masters_with, mount_point_on_copy, moved_to, moved_tree, image_of_nearest_group, parts_of, pushed_onto, moved_onto_copy, receiver_stood_on, receivers_of, stands_under, takes_part, top_of_copies, twig_master, twig_of, type_at, type_at_part, type_on_shared, with_moved_mounts}
 pub use Rattle.vt_spec.specs.Machine.Attributes.{attr_with_mode, attr_with_owner, may_chown}
 pub use Rattle.vt_spec.specs.Machine.CopyUp.{Merge, Stack, changed_both, copied_content, copied_each, copied_up, copy_named, copy_of, copy_of_node, copy_parent, directories_to, hides_directory, is_directory_shown, is_in_upper, line_by, line_to, merge_changed, merge_with_link, merge_with_moved, merge_with_new, merge_without_name, name_left, name_left_by, path_to, shown_in_lowers_at, upper_directory_named, upper_of, whiteout_of, with_mark, with_real, without_contents}
 pub use Rattle.vt_spec.specs.Machine.Descriptors.{free_from, free_number, inserted, is_copied_up, opened, overwritten, padded, pwritten, with_copy, with_descriptor, without_descriptor}
-pub use Rattle.vt_spec.specs.Machine.Detach.{after_going, deepest_first, depth_of, goes_at, going, going_at, going_from, has_child, insert_deepest, is_busy, is_going, is_point, is_used, lazily_unmounted, may_go, mount_point_left, mount_point_of_parent, mounts_on, only_cover, points_of, taken_away, unmounted, unmounted_if_there, upper_points, without_mounts_on, without_replaced}
+pub use Rattle.vt_spec.specs.Machine.Detach.{after_going, deepest_first, depth_of, goes_at, going, going_at, going_from, has_child, insert_deepest, is_busy, is_going, is_point, is_used, lazily_unmounted, may_go, inherited_mount_point, mount_point_of_parent, mounts_on, only_cover, points_of, taken_away, unmounted, unmounted_if_there, upper_points, without_mounts_on, without_replaced}
 pub use Rattle.vt_spec.specs.Machine.Filesystems.{changed_at, filesystem_changed, filesystems_raised, has_lower_directory_at, lies_only_in_lowers, merge_of, mounter_rules, numbers_of_change, overlay_changed, overlay_rules, raised, raised_if_changed, stack_of, with_change, with_files, with_merge}
 pub use Rattle.vt_spec.specs.Machine.Invariants.{ForksAreCounted, HasLivingGroups, IsMerged, IsWorld, ListsNumbers, Lives, MountInvariants, NamespaceInvariants, OverlayInvariants, SameObject, Stands, TaskInvariants, TreeInvariants, are_ascending_from, has_fit_layers, has_fit_names, has_fit_text, has_its_root, has_one_root, has_regular_files_open, is_directory_seen_in, is_fit_filesystem, is_listed, is_located_well, is_no_larger, is_nowhere_or_attached, is_plain_layer, is_private, is_root_mount, is_there, is_within_limits, last_parent, live_lowers, node_shown, number_at_path, overlap, real_node, real_shown, same_content, share_a_mount_point, stands_in_its_namespace, stands_on_directories}
 pub use Rattle.vt_spec.specs.Machine.Invariants.Lives.{has_master, has_no_master}
@@ -90,7 +90,7 @@ pub use Rattle.vt_spec.specs.Machine.Judging.{Judgement, by_option, directory_ma
 unfoldable pub use Rattle.vt_spec.specs.Machine.Judging.{judging}
 pub use Rattle.vt_spec.specs.Machine.Layers.{OpenLayer, Shown, at_path, has_lower_directory, names_shown, node_at_path, paths_from, shown, shown_in_lowers, view_of}
 pub use Rattle.vt_spec.specs.Machine.Listing.{filesystems_seen, groups_in_type, groups_seen, groups_shown, mount_line, mount_lines, mount_point_spot, number_among, peer_lines, spot_of, type_line}
-pub use Rattle.vt_spec.specs.Machine.Locked.{counts_in_layer, in_use, is_locked, is_locked_at, is_object_of, is_real_upper, lies_in_layer, lies_or_counts_under, live_layers, live_upper_and_work, of_overlay, overlaps_one_of, overlay_or, overlays, upper_and_work}
+pub use Rattle.vt_spec.specs.Machine.Locked.{counts_as_in_layer, in_use, is_locked, is_locked_at, is_object_of, is_real_upper, lies_in_layer, lies_or_counts_under, live_layers, live_upper_and_work, of_overlay, overlaps_one_of, overlay_or, overlays, upper_and_work}
 pub use Rattle.vt_spec.specs.Machine.Looks.{Looks, looks_of, may}
 pub use Rattle.vt_spec.specs.Machine.Merging.{Merged, MergedInode, entry_in_directory, inode_of, is_one_inode, is_root_path, layer_node, merged_at, merged_content, merged_inode, merged_inodes, merged_objects, real_object, real_of, same_path}
 pub use Rattle.vt_spec.specs.Machine.Mounts.{Location, Mount, Propagation, child_at, children, detached, group_of, index_of, is_shared, is_unbindable, mount_in, mount_tree, mounts_over, no_mount, numbers_by, replaced_if_same, root_of, same_location, source_of, stands_at, stands_on, topmost, tree_from, with_mount}
@@ -100,7 +100,7 @@ pub use Rattle.vt_spec.specs.Machine.NewMounts.{inode_count, mounted, new_mount,
 pub use Rattle.vt_spec.specs.Machine.Outcomes.{Outcome, after, denied, granted, judged}
 pub use Rattle.vt_spec.specs.Machine.Permits.{Permit}
 pub use Rattle.vt_spec.specs.Machine.Permits.Permit.{Allowed, ToBind, ToChange, ToClose, ToEnterNamespace, ToExit, ToFork, ToList, ToListMounts, ToMake, ToMountOverlay, ToMountPlain, ToMove, ToOpen, ToOpenNew, ToPivot, ToRead, ToReadPart, ToRemoveDirectory, ToRename, ToSetCredentials, ToSetDirectory, ToSetFlags, ToSetRoot, ToSetType, ToSetUmask, ToStat, ToUnmount, ToUnmountLazily, ToUnshare, ToWritePart}
-pub use Rattle.vt_spec.specs.Machine.Policy.{call_outcome, filesystems_changed_by, finished, finished_by, master_above, numbers_raised, only_looks, policy, raised_namespace, raised_task, same_bool, same_flags, same_mount, same_mounts_in, same_propagation}
+pub use Rattle.vt_spec.specs.Machine.Policy.{call_outcome, filesystems_changed_by, finished, finished_unless, master_above, numbers_raised, only_looks, policy, raised_namespace, raised_task, same_bool, same_flags, same_mount, same_mounts_in, same_propagation}
 pub use Rattle.vt_spec.specs.Machine.Receives.{Receives, groups_up, has_members, heir, inherited, inheriting, is_lost_group, is_member_of, lost_a_group, receivers, receives, regrouped, regrouped_by, slave_of_heir}
 pub use Rattle.vt_spec.specs.Machine.Receives.Receives.{further_down, member, slave}
 pub use Rattle.vt_spec.specs.Machine.Renaming.{renamed, renamed_content, renamed_entry, renamed_filesystem, renamed_location, renamed_mount, renamed_namespace, renamed_node, renamed_overlay, renamed_task}

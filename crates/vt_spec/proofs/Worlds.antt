@@ -10,7 +10,7 @@ use Rattle.vt_spec.specs.Language.Calls.{TaskName, same_name}
 use Rattle.vt_spec.specs.Language.Changes.{Change, without_parent}
 use Rattle.vt_spec.specs.Lists.{Fresh, folded, holds_of, is_among}
 use Rattle.vt_spec.specs.Machine.CopyUp.{Stack, name_left_by, with_mark, without_contents}
-use Rattle.vt_spec.specs.Machine.Detach.{after_going, mount_point_left, taken_away, without_replaced}
+use Rattle.vt_spec.specs.Machine.Detach.{after_going, inherited_mount_point, taken_away, without_replaced}
 use Rattle.vt_spec.specs.Machine.Filesystems.{filesystem_changed, overlay_changed, with_change}
 use Rattle.vt_spec.specs.Machine.Invariants.{SameObject, Stands}
 use Rattle.vt_spec.specs.Machine.Invariants.Stands.{at_root, on_parent}
@@ -18,7 +18,7 @@ use Rattle.vt_spec.specs.Machine.Locked.{of_overlay, overlay_or, upper_and_work}
 use Rattle.vt_spec.specs.Machine.Mounts.{Location, Mount, children, detached, mount_in, no_mount, replaced_if_same, same_location, stands_on, tree_from, with_mount}
 use Rattle.vt_spec.specs.Machine.Namespaces.{pivoted_mount}
 use Rattle.vt_spec.specs.Machine.Outcomes.{Outcome}
-use Rattle.vt_spec.specs.Machine.Policy.{finished_by}
+use Rattle.vt_spec.specs.Machine.Policy.{finished_unless}
 use Rattle.vt_spec.specs.Machine.Receives.{heir, inheriting, regrouped, regrouped_by}
 use Rattle.vt_spec.specs.Machine.Settled.{only_used, only_used_by, used_in}
 use Rattle.vt_spec.specs.Machine.Walking.{LastWord, is_dot, is_dot_dot, is_no_word, is_special}
@@ -77,7 +77,7 @@ pub number-after_going : (world : World ℕ) (gone : List ℕ) (mount : Mount �
 number-after_going world gone mount = by _
   where
     by : (b : Bool) → (cond b (detached mount) (record mount {
-      mount_point = option_map (mount_point_left nat_eq world gone) mount.mount_point;
+      mount_point = option_map (inherited_mount_point nat_eq world gone) mount.mount_point;
     })).number ≡ mount.number
     by true = refl
     by false = refl
@@ -88,7 +88,7 @@ pub filesystem-after_going : (world : World ℕ) (gone : List ℕ) (mount : Moun
 filesystem-after_going world gone mount = by _
   where
     by : (b : Bool) → (cond b (detached mount) (record mount {
-      mount_point = option_map (mount_point_left nat_eq world gone) mount.mount_point;
+      mount_point = option_map (inherited_mount_point nat_eq world gone) mount.mount_point;
     })).filesystem ≡ mount.filesystem
     by true = refl
     by false = refl
@@ -270,10 +270,10 @@ root-name_left_by true fresh stack upper directory name = refl
 root-name_left_by false fresh stack upper directory name = refl
 
 -- what is finished keeps its answer
-pub answer-finished_by : (looks : Bool) (world : World ℕ) (name : TaskName) (changed : List ℕ) (outcome : Outcome ℕ)
-    → (finished_by nat_eq looks world name changed outcome).answer ≡ outcome.answer
-answer-finished_by true world name changed outcome = refl
-answer-finished_by false world name changed outcome = refl
+pub answer-finished_unless : (looks : Bool) (world : World ℕ) (name : TaskName) (changed : List ℕ) (outcome : Outcome ℕ)
+    → (finished_unless nat_eq looks world name changed outcome).answer ≡ outcome.answer
+answer-finished_unless true world name changed outcome = refl
+answer-finished_unless false world name changed outcome = refl
 
 -- a mount that is looked for has the number
 pub number-mount_in : (mounts : List (Mount ℕ)) (number : ℕ) → (mount_in nat_eq mounts number).number ≡ number

@@ -1,7 +1,7 @@
 -- Layers as they are counted.
 use Rattle.std.proofs.Common.{◌≡◌, ◌≤◌, ◌<◌, ◌+◌, ◌-◌, ◌∙◌, ◌∷◌, ◌↔◌, [], arith, ap, Bool, cond, eq-eqb, false, filter, find, get_or, IsErr, length, List, map, nat_eq, ne_eqb, None, not, OnOk, option_map, Option, refl, Some, sym, take, true, unwrap_or, ℕ, Result, length-take-le}
 use Rattle.vt_spec.proofs.Common.{Inodes, folded, pinned, unpinned, uses_in, common_steps}
-use Rattle.vt_fs.specs.Trees.Slots.{most_uses}
+use Rattle.vt_location.specs.Numbers.{most_counted}
 use Rattle.vt_location.specs.declared.locations.NodeRef.{NodeRef}
 use Rattle.vt_location.specs.Locations.{inode_of, number_of}
 use Rattle.vt_fs.specs.FilesystemsValue.{ChangesInodes, FilesystemEntry, Filesystems, Shown, entry_at, entry_of, inodes_at, inodes_seen, no_entry, shown, shown_entry, shown_if, shown_with, with_changed, without}
@@ -206,11 +206,11 @@ room_at layers old new index default within room counted =
 
 module _ (layer : LayerRef) (at : NodeRef) (is : IsAt layer at) (old mid : Filesystems)
     (room : HasRoomFor 1 (shown old) layer) where
-  pub may_pin : uses_in ((inodes_at old at.filesystem.count).inode (number_of at)) ≡ most_uses → ⊥
+  pub may_pin : uses_in ((inodes_at old at.filesystem.count).inode (number_of at)) ≡ most_counted → ⊥
   may_pin full = grind (arith, common_steps, layer_used)
 
   pub may_mount : ChangesInodes at.filesystem.count (λ inodes. pinned nat_eq inodes (number_of at)) old mid
-      → (entry_at mid layer.directory.filesystem.count).mounts ≡ most_uses → ⊥
+      → (entry_at mid layer.directory.filesystem.count).mounts ≡ most_counted → ⊥
   may_mount changes full =
       let most = room.mounts in
       let same = mounts_are_shown layer.directory.filesystem.count mid

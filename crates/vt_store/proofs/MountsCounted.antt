@@ -1,12 +1,13 @@
 -- How many mounts show an overlay, or a plain filesystem.
 use Rattle.std.proofs.Common.{◌≡◌, ◌∙◌, ◌∷◌, [], ap, Bool, cond, false, get_or, nat_eq, None, Option, refl, Some, true, unwrap_or, ℕ, All, arith}
 use Rattle.vt_spec.proofs.Common.{All-cons, All-head, All-tail, common_steps}
+use Rattle.vt_laws_trees.specs.Overlays.InOrder.{put_in}
 use Rattle.vt_fs.specs.FilesystemsValue.{FilesystemEntry, Filesystems, entry_of, files_at, files_seen, filesystem_seen, filesystems_seen, no_entry, with_changed}
 use Rattle.vt_overlay.specs.declared.merge.layers.LayerRef.{LayerRef}
 use Rattle.vt_store.specs.Counts.{with_mounts_by}
 use Rattle.vt_store.specs.Laws.{IsSameLayer, MountsAreNotSeen, MountsLeaveLayers}
 use Rattle.vt_store.specs.OverlaysValue.{OverlayEntry, Overlays, with_overlay_changed}
-use Rattle.vt_store.specs.StoreValue.{StandOnLayers, StandsOnLayers, entry_in, filesystems_of, overlay_filesystem, put_in, woven}
+use Rattle.vt_store.specs.StoreValue.{StandOnLayers, StandsOnLayers, entry_in, filesystems_of, overlay_filesystem, woven}
 use Rattle.vt_store.proofs.LayersStanding.{overlays_stand_still}
 use Rattle.vt_store.proofs.OverlaysAlike.{overlays_stay_with_layers}
 

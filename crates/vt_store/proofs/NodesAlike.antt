@@ -1,10 +1,11 @@
 -- A node and what is lent for it, of a plain tree or of an overlay.
 use Rattle.std.proofs.Common.{◌≡◌, ◌∙◌, ap, None, option_map, Option, refl, slice_get, Some, sym, ℕ}
 use Rattle.vt_spec.proofs.Common.{Content, Directory, Node, OpenLayer, Regular, Shown, Symlink, Whiteout, layer_node, slice_get-map, then_some}
+use Rattle.vt_location.specs.Fronts.{front}
 use Rattle.vt_fs.specs.FilesystemsValue.{Filesystems, files_at, node_seen}
 use Rattle.vt_overlay.specs.Merge.LayerValue.{layer_of, layers_of}
 use Rattle.vt_overlay.specs.declared.merge.layers.LayerRef.{LayerRef}
-use Rattle.vt_overlay.specs.Alike.{front, lent_at, real_lent}
+use Rattle.vt_overlay.specs.Alike.{lent_at, real_lent}
 use Rattle.vt_overlay.specs.MergedTree.{AreLayers, OverlayValue, merged_tree, object_shown}
 use Rattle.vt_overlay.proofs.ObjectsAlike.{inode_of_object, objects_alike}
 use Rattle.vt_store.specs.Laws.{NodesAreLikeObjects}

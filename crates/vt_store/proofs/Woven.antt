@@ -1,13 +1,14 @@
 -- Plain filesystems and overlays, found by their numbers.
 use Rattle.std.proofs.Common.{◌≡◌, ◌∙◌, ◌∷◌, ◌⊎◌, [], arith, ap, Bor, cond, List, inl, inr, nat_eq, nat_lt, None, option_map, Option, refl, Some, sym, ℕ, find, is_some, option_copied, unwrap_or}
 use Rattle.vt_spec.proofs.Common.{Among, Filesystem, found_among, no_filesystem, none_is_some, same_Some, common_steps}
+use Rattle.vt_laws_trees.specs.Overlays.InOrder.{put_in}
 use Rattle.vt_location.proofs.NumberLemmas.{counted_test}
 use Rattle.vt_location.specs.Numbers.{counted}
 use Rattle.vt_fs.proofs.Numbers.{found_by_number}
 use Rattle.vt_fs.specs.FilesystemsValue.{FilesystemEntry, Filesystems, entry_at, entry_of, files_at, filesystem_seen, filesystems_seen, inodes_seen}
 use Rattle.vt_overlay.specs.MergedTree.{OverlayValue, merged_files}
 use Rattle.vt_store.specs.OverlaysValue.{OverlayEntry}
-use Rattle.vt_store.specs.StoreValue.{StoreValue, entry_in, filesystem_found, filesystem_in, files_in, overlay_filesystem, overlay_in, put_in, root_in, woven}
+use Rattle.vt_store.specs.StoreValue.{StoreValue, entry_in, filesystem_found, filesystem_in, files_in, overlay_filesystem, overlay_in, root_in, woven}
 
 -- what is put in is found by its number, and all others as before
 find-put_in : (number : ℕ) (filesystem : Filesystem ℕ) (others : List (Filesystem ℕ))

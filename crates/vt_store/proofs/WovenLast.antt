@@ -1,11 +1,12 @@
 -- An overlay whose number is above all others comes after them.
 use Rattle.std.proofs.Common.{◌≡◌, ◌++◌, ◌∷◌, [], ap, arith, cond, false, List, ltb-true, nat_lt, refl, true, ℕ, le-ltb, lt-ltb}
 use Rattle.vt_spec.proofs.Common.{Filesystem, and_parts, list_all, common_steps}
+use Rattle.vt_laws_trees.specs.Overlays.InOrder.{put_in}
 use Rattle.vt_location.specs.Numbers.{counted}
 use Rattle.vt_fs.specs.FilesystemsValue.{FilesystemEntry, Filesystems, filesystems_seen}
 use Rattle.vt_store.specs.Laws.{NewOverlaysAreLast}
 use Rattle.vt_store.specs.OverlaysValue.{OverlayEntry}
-use Rattle.vt_store.specs.StoreValue.{overlay_filesystem, put_in, woven}
+use Rattle.vt_store.specs.StoreValue.{overlay_filesystem, woven}
 
 -- numbers stand as counts do
 below : (a b : ℕ) → nat_lt a b ≡ true → nat_lt (counted a) (counted b) ≡ true

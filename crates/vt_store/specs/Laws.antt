@@ -3,10 +3,10 @@ use Rattle.std.specs.Prelude.{All, None, false, length, nat_eq, nat_lt, true, â„
 use Rattle.std.specs.List.{list_all}
 use Rattle.vt_spec.specs.Machine.Invariants.{IsWorld}
 use Rattle.vt_spec.specs.Machine.World.{World}
+use Rattle.vt_location.specs.Fronts.{front}
 use Rattle.vt_location.specs.Numbers.{is_inode_of}
 use Rattle.vt_fs.specs.FilesystemsValue.{FilesystemEntry, Filesystems, files_at, inodes_seen}
 use Rattle.vt_overlay.specs.declared.merge.layers.LayerRef.{LayerRef}
-use Rattle.vt_overlay.specs.Alike.{front}
 use Rattle.vt_overlay.specs.MergedTree.{AreLayers}
 use Rattle.vt_store.specs.Counts.{with_mounts}
 use Rattle.vt_store.specs.OverlaysValue.{OverlayEntry, Overlays}

@@ -3,7 +3,7 @@ use Rattle.std.specs.Prelude.{All, List, [], filter, find, if◌then◌else◌, 
 use Rattle.vt_spec.specs.Inodes.{pinned, unpinned, uses_in}
 use Rattle.vt_spec.specs.Lists.{folded}
 use Rattle.vt_spec.specs.Rights.{Credentials}
-use Rattle.vt_fs.specs.Trees.Slots.{most_uses}
+use Rattle.vt_location.specs.Numbers.{most_counted}
 use Rattle.vt_location.specs.declared.numbers.FilesystemId.{FilesystemId}
 use Rattle.vt_location.specs.Locations.{inode_of}
 use Rattle.vt_fs.specs.FilesystemsValue.{Shown, shown_with}
@@ -54,8 +54,8 @@ without_layers layers all = folded without_layer all layers
 
 -- so many uses more of a layer's directory, and mounts of its filesystem, can be counted
 pub record HasRoomFor (more : ℕ) (all : List Shown) (layer : LayerRef) : Type 0 where
-  pub uses : uses_shown layer.directory.filesystem.count (inode_of layer.directory) all + more ≤ most_uses
-  pub mounts : mounts_shown layer.directory.filesystem.count all + more ≤ most_uses
+  pub uses : uses_shown layer.directory.filesystem.count (inode_of layer.directory) all + more ≤ most_counted
+  pub mounts : mounts_shown layer.directory.filesystem.count all + more ≤ most_counted
 
 abbrev pub HaveRoomFor : ℕ → List Shown → List LayerRef → Type 0
 HaveRoomFor more all layers = All (HasRoomFor more all) layers

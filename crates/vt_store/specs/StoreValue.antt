@@ -3,6 +3,7 @@ use Rattle.std.specs.Prelude.{All, List, None, Option, Some, [], find, if◌then
 use Rattle.vt_spec.specs.FileTree.{FileTree}
 use Rattle.vt_spec.specs.Machine.World.{Filesystem, Overlay, World, filesystem_numbered}
 use Rattle.vt_spec.specs.Tree.{Node}
+use Rattle.vt_laws_trees.specs.Overlays.InOrder.{put_in}
 use Rattle.vt_laws_trees.specs.Overlays.TreesSeen.{real_seen}
 use Rattle.vt_location.specs.Numbers.{counted}
 use Rattle.vt_fs.specs.FilesystemsValue.{Filesystems, files_at, filesystems_seen, node_seen}
@@ -38,12 +39,6 @@ overlay_filesystem plain entry = record {
   overlay = Some (layers_and_objects plain entry.overlay);
   change = 0;
 }
-
--- a filesystem put in before the first one whose number is not smaller
-abbrev pub put_in : Filesystem ℕ → List (Filesystem ℕ) → List (Filesystem ℕ)
-put_in filesystem [] = filesystem ∷ []
-put_in filesystem (first ∷ rest) =
-    if nat_lt first.number filesystem.number then first ∷ put_in filesystem rest else filesystem ∷ first ∷ rest
 
 -- all filesystems, in the order in which they were made
 abbrev pub woven : Filesystems → Overlays → List (Filesystem ℕ)

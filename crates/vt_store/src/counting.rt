@@ -1,6 +1,6 @@
 //! How many mounts show a filesystem, a plain tree or an overlay. A layer of an overlay is counted as a mount is.
 ghost use Rattle.std.specs.Prelude.{◌≡◌, ◌+◌, ◌-◌, ◌↔◌, IsErr, OnErr, OnOk};
-ghost use Rattle.vt_fs.specs.Trees.Slots.{most_uses};
+ghost use Rattle.vt_location.specs.Numbers.{most_counted};
 ghost use Rattle.vt_store.specs.Counts.{mounts_in, with_mounts};
 
 use crate::store::Store;
@@ -23,7 +23,7 @@ impl Store {
     /// An error says that it has 2^64 - 1 mounts.
     pub fn hold_mount(&mut self, filesystem: FilesystemId) -> Result<(), AllocError>
         ensures ok { OnOk result (self.new ≡ with_mounts filesystem.count (λ mounts. mounts + 1) self.old) }
-        ensures limit { IsErr result ↔ (mounts_in self.old filesystem.count ≡ most_uses) }
+        ensures limit { IsErr result ↔ (mounts_in self.old filesystem.count ≡ most_counted) }
         ensures err { OnErr result (self.new ≡ self.old) }
     {
         let Some(mounts) = self.overlays.mounts(filesystem) else {

@@ -2,11 +2,11 @@
 ghost use Rattle.std.specs.Prelude.{◌≡◌, ◌<◌, ◌+◌, ◌-◌, ◌++◌, ◌∷◌, ◌↔◌, [], IfSome, OnErr, OnOk, nat_eq, nat_lt, option_copied, option_map, true};
 ghost use Rattle.std.specs.List.{list_all, list_any};
 ghost use Rattle.std.specs.Map.{lookup};
+ghost use Rattle.vt_location.specs.Numbers.{most_counted};
 ghost use Rattle.vt_location.specs.Locations.{inode_of};
 ghost use Rattle.vt_fs.specs.FilesystemsValue.{files_at};
 ghost use Rattle.vt_fs.specs.Laws.{ParentsAreNamed};
 ghost use Rattle.vt_store.specs.Numbered.{AreNotOlder};
-ghost use Rattle.vt_fs.specs.Trees.Slots.{most_uses};
 
 use crate::layer_counts::LayerCounts;
 use indexmap::IndexMap;
@@ -164,7 +164,7 @@ impl Overlays {
 
     /// Counts one more mount of an overlay that has fewer than 2^64 - 1. It does not allocate.
     pub fn hold_mount(&mut self, id: FilesystemId)
-        requires { IfSome (entry_kept self.old id.count) (λ entry. entry.mounts < most_uses) }
+        requires { IfSome (entry_kept self.old id.count) (λ entry. entry.mounts < most_counted) }
         ensures { self.new ≡ with_overlay_changed id.count
             (λ entry. record entry { mounts = entry.mounts + 1 }) self.old }
     {

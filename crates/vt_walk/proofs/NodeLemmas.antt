@@ -5,8 +5,8 @@ use Rattle.vt_location.specs.declared.locations.Location.{Location as CodeLocati
 use Rattle.vt_location.specs.Locations.{location_of}
 use Rattle.vt_walk.specs.WalkValue.{IsLent, IsNodeAt}
 use Rattle.vt_location.specs.declared.numbers.MountId.{MountId}
-use Rattle.vt_looks.specs.Looking.{front, front_of}
 use Rattle.vt_spec.specs.declared.attributes.Kind.TheVariants.{Symlink}
+use Rattle.vt_location.specs.Fronts.{front, front_of}
 
 -- mounts of one count are one
 pub same-mount : (a b : MountId) → not (nat_eq a.count b.count) ≡ false → a ≡ b

@@ -30,10 +30,6 @@ inodes_in root table = record { root = root; inode = slot_at table; count = slot
 abbrev pub put_at : {A : Type 0} → (ℕ → A) → ℕ → A → ℕ → A
 put_at f key value = λ other. if nat_eq other key then value else f other
 
--- the largest count: a use more is refused
-abbrev pub most_uses : ℕ
-most_uses = 18446744073709551615
-
 abbrev pub with_uses : ℕ → Option (Inode ℕ) → Option (Inode ℕ)
 with_uses uses None = None
 with_uses uses (Some inode) = Some (record inode { uses = uses })

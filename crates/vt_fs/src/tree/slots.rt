@@ -63,7 +63,8 @@ impl Model for Slots {
 }
 
 impl Slots {
-    ghost use Rattle.vt_fs.specs.Trees.Slots.{Slots as Table, slots_len, slot_at, node_at, put_at, most_uses, with_uses, goes};
+    ghost use Rattle.vt_fs.specs.Trees.Slots.{Slots as Table, slots_len, slot_at, node_at, put_at, with_uses, goes};
+    ghost use Rattle.vt_location.specs.Numbers.{most_counted};
     ghost use Rattle.vt_fs.specs.Trees.Lends.{lends_node, lends_present};
 
     /// No nodes. It does not allocate.
@@ -192,7 +193,7 @@ impl Slots {
     pub fn acquire(&mut self, id: NodeId) -> Result<(), AllocError>
         ensures acquired { OnOk result
             (slot_at self.new ≡ put_at (slot_at self.old) id (used_once_more (slot_at self.old id))) }
-        ensures limit { IsErr result ↔ (uses_in (slot_at self.old id) ≡ most_uses) }
+        ensures limit { IsErr result ↔ (uses_in (slot_at self.old id) ≡ most_counted) }
         ensures next { self.new.next ≡ self.old.next }
         ensures len { slots_len self.new ≡ slots_len self.old }
         ensures room { self.new.room ≡ self.old.room }
@@ -207,7 +208,7 @@ impl Slots {
 
     /// Counts one use more of a node that exists, for a caller that knows that the count is below its limit.
     pub fn count_use(&mut self, id: NodeId)
-        requires { uses_in (slot_at self.old id) < most_uses }
+        requires { uses_in (slot_at self.old id) < most_counted }
         ensures acquired { slot_at self.new ≡ put_at (slot_at self.old) id (used_once_more (slot_at self.old id)) }
         ensures next { self.new.next ≡ self.old.next }
         ensures len { slots_len self.new ≡ slots_len self.old }

@@ -10,9 +10,9 @@ ghost use Rattle.vt_spec.specs.Language.Limits.{largest_file};
 ghost use Rattle.vt_spec.specs.Machine.Descriptors.{overwritten};
 ghost use Rattle.vt_spec.specs.Tree.{is_directory_node, parent_in, entries_in, names_in, bytes_in};
 ghost use Rattle.vt_spec.specs.TreeInvariant.{IsDirectory, entry_at};
+ghost use Rattle.vt_location.specs.Numbers.{most_counted};
 ghost use Rattle.vt_fs.specs.Trees.TreeValue.{inodes_of, tree_of, next_number, with_unnamed};
 ghost use Rattle.vt_fs.specs.Trees.Names.{HoldsNames};
-ghost use Rattle.vt_fs.specs.Trees.Slots.{most_uses};
 
 use crate::tree::changes::{
     insert_entry, place_entry, release, remove_entry, remove_object, set_attr, set_bytes,
@@ -409,7 +409,7 @@ impl Tree {
     /// An error says that the object has 2^64 - 1 uses.
     pub fn pin(&mut self, object: NodeId) -> Result<(), AllocError>
         ensures ok { OnOk result (inodes_of self.new ≡ pinned nat_eq (inodes_of self.old) object) }
-        ensures limit { IsErr result ↔ (uses_in ((inodes_of self.old).inode object) ≡ most_uses) }
+        ensures limit { IsErr result ↔ (uses_in ((inodes_of self.old).inode object) ≡ most_counted) }
         ensures err { OnErr result (self.new ≡ self.old) }
     {
         self.slots.acquire(object)

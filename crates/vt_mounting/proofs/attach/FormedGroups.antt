@@ -1,6 +1,6 @@
 -- The groups that an attachment makes, against the types of its copies.
 use Rattle.std.proofs.Common.{◌≡◌, ◌⊎◌, refl, sym, ap, subst, ◌∙◌, true≢false, inl, inr, ℕ, nat_eq, eq-eqb, eqb-true, Bool, true, false, cond, not, List, map, Option, Some, None, is_some, option_map, unwrap_or, filter_map, arith}
-use Rattle.vt_spec.proofs.Common.{Among, Copies, Graft, Location, Mount, Private, Propagation, Shared, Slave, Twig, Unbindable, World, all_from_among, among-filter_map, among-flat_map, among-from_filter_map, among-from_flat_map, among-from_map, among-map, any_among, any_from_among, common_steps, contains_from_among, copies_at, copy_at, copy_type, graft_of, group_made, group_of, has_members, holds_of, image, is_among, is_among_numbers, is_destination, is_member_of, is_shared, master_after, mount_at, nearest_image, none_is_some, parts_of, then_some, twig_master, twig_of, type_at, type_at_part, when}
+use Rattle.vt_spec.proofs.Common.{Among, Copies, Graft, Location, Mount, Private, Propagation, Shared, Slave, Twig, Unbindable, World, all_from_among, among-filter_map, among-flat_map, among-from_filter_map, among-from_flat_map, among-from_map, among-map, any_among, any_from_among, common_steps, contains_from_among, copies_at, copy_at, copy_type, graft_of, group_made, group_of, has_members, holds_of, image, is_among, is_among_numbers, is_destination, is_member_of, is_shared, master_after, mount_at, image_of_nearest_group, none_is_some, parts_of, then_some, twig_master, twig_of, type_at, type_at_part, when}
 use Rattle.vt_mounting.proofs.Common.{HasGroup}
 use Rattle.vt_laws_mounts.proofs.mounts.MountsFound.{number-mount_in}
 use Rattle.vt_mounting.specs.Attach.AttachedGroups.{FormedGroupsBegin, GroupsOfCopiesAreNamed, HasGroupsOf, all_copies, groups_formed}
@@ -88,7 +88,7 @@ module _ (world : World ℕ) (new : Copies ℕ) (place : Location ℕ) (moves : 
             ((λ i. cond (is_first i) (twig_master twig)
             (then_some (group_of target.propagation) (λ other. when (not (is_member_of nat_eq other target)) (
               image nat_eq new target twig other,
-              nearest_image nat_eq world new parts target twig (world.master other),
+              image_of_nearest_group nat_eq world new parts target twig (world.master other),
             )))) ∙ (λ i. cond (e i) None (option_map (λ other. (other, master_after twig.origin.propagation)) (is i)))))
 
     named_at : (part : Mount ℕ) (twig : Twig ℕ) → Among part parts → Among twig graft.twigs → (group : ℕ)
@@ -113,7 +113,7 @@ module _ (world : World ℕ) (new : Copies ℕ) (place : Location ℕ) (moves : 
         elsewhere own kind other is = by_member (is_member_of nat_eq own target) refl
           where
             above : Option ℕ
-            above = nearest_image nat_eq world new parts target twig (world.master own)
+            above = image_of_nearest_group nat_eq world new parts target twig (world.master own)
 
             by_member : (b : Bool) → is_member_of nat_eq own target ≡ b → IsNamed group
             by_member true e = as_first own e
@@ -124,14 +124,14 @@ module _ (world : World ℕ) (new : Copies ℕ) (place : Location ℕ) (moves : 
                 ((λ i. cond (other i) (twig_master twig)
                 (then_some (group_of (kind i)) (λ one. when (not (is_member_of nat_eq one target)) (
                   image nat_eq new target twig one,
-                  nearest_image nat_eq world new parts target twig (world.master one),
+                  image_of_nearest_group nat_eq world new parts target twig (world.master one),
                 )))) ∙ ap (λ b. when (not b) (image nat_eq new target twig own, above)) e)))
 
         by_kind : (kind : Propagation ℕ) → part.propagation ≡ kind → is_destination nat_eq graft part.number ≡ false
             → group_of (copy_type nat_eq world new parts target twig kind) ≡ Some group → IsNamed group
         by_kind (Shared own) kind other is = elsewhere own kind other is
         by_kind (Slave master) kind other is = none_is_some group (sym (no_group_of_heir
-            (nearest_image nat_eq world new parts target twig (Some master))) ∙ is)
+            (image_of_nearest_group nat_eq world new parts target twig (Some master))) ∙ is)
         by_kind Private kind other is = none_is_some group is
         by_kind Unbindable kind other is = none_is_some group is
 

@@ -1,11 +1,12 @@
 -- How many mounts show overlays, as code counts them: those that come are room for, and are counted.
 use Rattle.std.proofs.Common.{◌≡◌, refl, sym, ap, subst, ◌∙◌, ℕ, ◌+◌, ◌-◌, ◌<◌, ◌≤◌, true, false, ◌&&◌, List, [], ◌∷◌, map, length, Option, Some, None, is_some, option_map, unwrap_or, take, get_or, arith, le-leb, leb-true, length-take-le}
 use Rattle.vt_spec.proofs.Common.{and_parts, common_steps, folded, list_all}
+use Rattle.vt_location.specs.Numbers.{most_counted}
 use Rattle.vt_mounting.proofs.Common.{OverlayValue, Overlays, StoreValue, among_from_list_all, counted, counted_test, entry_in, entry_kept, overlay_in, with_mounts, with_mounts_by, with_overlay_changed}
 use Rattle.vt_location.specs.declared.mounts.Mount.{Mount}
 use Rattle.vt_store.specs.Counts.{mounts_in}
 use Rattle.vt_store.specs.OverlaysValue.{OverlayEntry}
-use Rattle.vt_mounting.specs.Attach.Room.{merged_has_room, most_counted}
+use Rattle.vt_mounting.specs.Attach.Room.{merged_has_room}
 use Rattle.vt_mounting.specs.Detach.Stored.{merged_of}
 use Rattle.vt_mounting.specs.Detach.Uses.{Merged, merged_at, merged_by, mounted_merged}
 use Rattle.vt_mounting.proofs.attach.EnteringLemmas.{among_at}

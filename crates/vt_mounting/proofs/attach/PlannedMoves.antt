@@ -3,12 +3,13 @@ use Rattle.std.proofs.Common.{◌≡◌, refl, ap, subst, sym, ◌∙◌, ℕ, �
 use Rattle.vt_spec.proofs.Common.{and_parts, common_steps, folded, length-map, list_all, list_all-append, pinned, take_more, uses_in, ⊤}
 use Rattle.std.proofs.lemmas.List.{flat_map_more, map_more}
 use Rattle.std.proofs.lemmas.List.Folds.{list_all_more}
+use Rattle.vt_location.specs.Numbers.{most_counted}
 use Rattle.vt_mounting.proofs.Common.{Among, ChangesInodes, Filesystems, Inode, MountEntry, Shown, among-append_left, among-append_right, among-map, among_from_list_all, counted, inodes_at, location_of, number_of, shown}
 use Rattle.vt_location.specs.declared.locations.Location.{Location}
 use Rattle.vt_location.specs.declared.mounts.Mount.{Mount}
 use Rattle.vt_mount.specs.declared.moving.Moved.{Moved}
 use Rattle.vt_mounting.specs.Attach.Planned.{Point, left_of, pinned_by, placed_entry, points_taken, taken_of, unpinned_by}
-use Rattle.vt_mounting.specs.Attach.Room.{has_room, most_counted, point_has_room, uses_shown}
+use Rattle.vt_mounting.specs.Attach.Room.{has_room, point_has_room, uses_shown}
 use Rattle.vt_mounting.specs.Detach.Uses.{inode_of, mounts_shown}
 use Rattle.vt_mounting.proofs.detach.Shown.{pins}
 use Rattle.vt_mounting.proofs.attach.RoomLemmas.{folded_more, not_refused, pinned_mounts, pinned_uses, uses_are_shown}

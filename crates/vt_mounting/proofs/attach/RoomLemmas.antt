@@ -1,11 +1,12 @@
 -- Uses of inodes and filesystems that new mounts make, and room for them.
 use Rattle.std.proofs.Common.{◌≡◌, refl, sym, ap, subst, ◌∙◌, ℕ, ◌+◌, ◌*◌, ◌-◌, ◌<◌, ◌≤◌, nat_eq, eqb-true, Bool, true, false, cond, ◌&&◌, List, [], ◌∷◌, ◌++◌, length, find, Option, Some, None, option_map, unwrap_or, take, get_or, arith, Err, IsErr, Ok, OnOk, Result, nat_le, le-leb, leb-true, length-take-le, IsOk, true≢false}
 use Rattle.vt_spec.proofs.Common.{Inode as Counted, Inodes, and_parts, common_steps, folded, list_all, pinned, used_once_more, uses_in, ⊤}
+use Rattle.vt_location.specs.Numbers.{most_counted}
 use Rattle.vt_mounting.proofs.Common.{Filesystems, Inode, Shown, among_from_list_all, counted, counted_test, entry_of, inodes_at, inodes_seen, no_entry, number_of, pinned_if, shown, shown_entry, with_changed}
 use Rattle.vt_fs.specs.FilesystemsValue.{HoldsRoot}
 use Rattle.vt_location.specs.declared.locations.Location.{Location}
 use Rattle.vt_location.specs.declared.mounts.Mount.{Mount}
-use Rattle.vt_mounting.specs.Attach.Room.{has_room, most_counted, point_has_room, uses_shown}
+use Rattle.vt_mounting.specs.Attach.Room.{has_room, point_has_room, uses_shown}
 use Rattle.vt_mounting.specs.Detach.Uses.{inode_of, mounted_if, mounted_in, mounts_shown, pinned_at, pinned_in, shown_by}
 use Rattle.vt_mounting.proofs.attach.EnteringLemmas.{among_at}
 use Rattle.vt_mounting.proofs.detach.Shown.{pins}

@@ -1,7 +1,7 @@
 -- The begin in a world with its invariants, and the end: where all mounts of a list are detached, the sweep's world is
 -- left.
 use Rattle.std.proofs.Common.{◌≡◌, refl, sym, ap, subst, ◌∙◌, inl, ℕ, ◌+◌, nat_eq, Bool, true, false, true≢false, cond, ◌&&◌, List, [], map, filter, Option, Some, None, option_map, is_some, All, option_to_list, map-id, arith}
-use Rattle.vt_spec.proofs.Common.{Filesystem, Location, Mount, Permit, Private, Task, TaskName, World, after_going, and_parts, common_steps, detached, filesystem_numbered, has_its_root, is_among, is_directory_at, is_directory_node, is_located, is_located_well, is_mounted, is_nowhere_or_attached, is_there, list_all, map_alike, map_twice, mount_at, mount_in, mount_point_left, node_at, or_false_left, regrouped, taken_away, with_mounts, without_changes}
+use Rattle.vt_spec.proofs.Common.{Filesystem, Location, Mount, Permit, Private, Task, TaskName, World, after_going, and_parts, common_steps, detached, filesystem_numbered, has_its_root, is_among, is_directory_at, is_directory_node, is_located, is_located_well, is_mounted, is_nowhere_or_attached, is_there, list_all, map_alike, map_twice, mount_at, mount_in, inherited_mount_point, node_at, or_false_left, regrouped, taken_away, with_mounts, without_changes}
 use Rattle.vt_mounting.proofs.Common.{Among, CountsItsMounts, CountsItsUses, CountsWhatIsInIt, Exchanges, Filesystems, Inode, IsHeld, IsMountedSoOften, MountEntry, Shown, WorldValue, all_from_among, all_in_use, among-from_map, among-map, among_from_all, among_from_list_all, counted, directory_is_there, filesystem_seen, found_is_there, in_use_of, is_among_numbers, is_ungrouped, layer_count, location_of, mount_uses, mounts_in, mounts_of_worlds_stand, mounts_showing, number-mount_in, overlays_seen, shown_entry, stands_on_attached, times, world_of, writes_of}
 use Rattle.vt_laws_mounts.proofs.counts.using.MountRoots as Roots
 use Rattle.vt_laws_mounts.proofs.letting_go.mounting.MountingTaken as Taken
@@ -150,9 +150,9 @@ taken_regroups world gone closed = ap (λ mounts. regrouped nat_eq (with_mounts 
     (λ mount m. same mount m (is_among nat_eq mount.number gone) refl))
   where
     stays_placed : (mount : Mount ℕ) → Among mount world.mounts → is_among nat_eq mount.number gone ≡ false
-        → (o : Option (Location ℕ)) → mount.mount_point ≡ o → option_map (mount_point_left nat_eq world gone) o ≡ o
+        → (o : Option (Location ℕ)) → mount.mount_point ≡ o → option_map (inherited_mount_point nat_eq world gone) o ≡ o
     stays_placed mount m e None p = refl
-    stays_placed mount m e (Some place) p = ap (option_map (mount_point_left nat_eq world gone)) (sym p)
+    stays_placed mount m e (Some place) p = ap (option_map (inherited_mount_point nat_eq world gone)) (sym p)
         ∙ ap (λ (x : Mount ℕ). x.mount_point) (sym (Taken.stays_there world gone world.namespaces mount e))
         ∙ Taken.same_place world gone world.namespaces false mount place p e
         (other (is_among nat_eq place.mount gone) refl)
@@ -163,7 +163,7 @@ taken_regroups world gone closed = ap (λ mounts. regrouped nat_eq (with_mounts 
 
     same : (mount : Mount ℕ) → Among mount world.mounts → (b : Bool) → is_among nat_eq mount.number gone ≡ b
         → cond b (detached mount) (record mount {
-          mount_point = option_map (mount_point_left nat_eq world gone) mount.mount_point;
+          mount_point = option_map (inherited_mount_point nat_eq world gone) mount.mount_point;
         }) ≡ cond b (detached mount) mount
     same mount m true e = refl
     same mount m false e = ap (λ place. record mount { mount_point = place })

@@ -1,7 +1,7 @@
 -- A lazy unmount of a tree of which no mount is in a group, and whose top stands on no shared mount: each of its events
 -- detaches one mount of the tree, and in the end all of them are detached.
 use Rattle.std.proofs.Common.{◌≡◌, refl, sym, ap, subst, ◌∙◌, inl, inr, ⊎_elim, ◌⊎◌, ℕ, zero, suc, nat_eq, eqb-true, eq-eqb, Bool, true, false, true≢false, cond, not, ◌&&◌, ◌||◌, List, [], ◌∷◌, ◌++◌, map, find, length, Option, Some, None, option_map, is_some, unwrap_or, map-id, arith}
-use Rattle.vt_spec.proofs.Common.{HasLivingGroups, Lives, Location, Mount, MountInvariants, Private, Propagation, Shared, Slave, Unbindable, World, after_going, any_pair, chain, children, common_steps, cons_option, deepest_first, detached, folded, going, holds_of, insert_deepest, is_among, is_going, is_nowhere_or_attached, is_private, is_shared, last_or, lazily_unmounted, list_all, map_alike, map_twice, mount_at, mount_in, mount_numbered, mount_point_left, mount_point_of_parent, mount_tree, no_mount, none_is_some, regrouped, same_Some, stands_on, taken_away, tree_from, unmounted_if_there, with_mounts}
+use Rattle.vt_spec.proofs.Common.{HasLivingGroups, Lives, Location, Mount, MountInvariants, Private, Propagation, Shared, Slave, Unbindable, World, after_going, any_pair, chain, children, common_steps, cons_option, deepest_first, detached, folded, going, holds_of, insert_deepest, is_among, is_going, is_nowhere_or_attached, is_private, is_shared, last_or, lazily_unmounted, list_all, map_alike, map_twice, mount_at, mount_in, mount_numbered, inherited_mount_point, mount_point_of_parent, mount_tree, no_mount, none_is_some, regrouped, same_Some, stands_on, taken_away, tree_from, unmounted_if_there, with_mounts}
 use Rattle.vt_spec.proofs.Lists as Spec
 use Rattle.vt_mounting.proofs.Common.{AllGroupsLive, Among, all_from_among, among-flat_map, among-from_filter, among-from_flat_map, among-from_map, among-map, among_from_all, among_from_list_all, among_numbers, found_in, found_is_there, found_itself, is_among_numbers, is_ungrouped, peer_of, peers_of, regrouped_living}
 use Rattle.vt_laws_mounts.proofs.letting_go.mounting.MountingTaken as Taken
@@ -249,7 +249,7 @@ module _ {world : World ℕ} {tree : List ℕ} (can : CanDetach world tree) wher
 
     going_so : (x : Mount ℕ) → x.number ≡ number → after_going nat_eq now (number ∷ []) x ≡ detached x
     going_so x numbered = ap (λ b. cond (b || false) (detached x)
-        (record x { mount_point = option_map (mount_point_left nat_eq now (number ∷ [])) x.mount_point }))
+        (record x { mount_point = option_map (inherited_mount_point nat_eq now (number ∷ [])) x.mount_point }))
         (eq-eqb x.number number numbered)
 
     stays_so : (x : Mount ℕ) → nat_eq x.number number ≡ false → is_going nat_eq (number ∷ []) x.number ≡ false
@@ -258,7 +258,7 @@ module _ {world : World ℕ} {tree : List ℕ} (can : CanDetach world tree) wher
     unplaced_stays : (x : Mount ℕ) → nat_eq x.number number ≡ false → x.mount_point ≡ None
         → after_going nat_eq now (number ∷ []) x ≡ x
     unplaced_stays x other none = Taken.stays_there now (number ∷ []) now.namespaces x (stays_so x other) ∙ (λ i. record x {
-      mount_point = (ap (option_map (mount_point_left nat_eq now (number ∷ []))) none ∙ sym none) i;
+      mount_point = (ap (option_map (inherited_mount_point nat_eq now (number ∷ []))) none ∙ sym none) i;
     })
 
     placed_stays : (x : Mount ℕ) {place : Location ℕ} → nat_eq x.number number ≡ false → x.mount_point ≡ Some place
@@ -308,7 +308,7 @@ module _ {world : World ℕ} {tree : List ℕ} (can : CanDetach world tree) wher
 
     -- A mount that stands on one that goes falls to where that one stands, which is on no shared mount.
     falls_apart : (place : Location ℕ) → is_shared (mount_at nat_eq world place).propagation ≡ false
-        → is_shared (mount_at nat_eq world (mount_point_left nat_eq now (number ∷ []) place)).propagation ≡ false
+        → is_shared (mount_at nat_eq world (inherited_mount_point nat_eq now (number ∷ []) place)).propagation ≡ false
     falls_apart place is = last (length now.mounts) place place is is
       where
         below : Location ℕ → Option (Location ℕ)
@@ -337,17 +337,17 @@ module _ {world : World ℕ} {tree : List ℕ} (can : CanDetach world tree) wher
 
     apart_next : (mount : Mount ℕ) → Among mount world.mounts → is_among nat_eq mount.number tree ≡ true → (b : Bool)
         → IsApart world (cond b (detached (so.change mount)) (record (so.change mount) {
-          mount_point = option_map (mount_point_left nat_eq now (number ∷ [])) (so.change mount).mount_point;
+          mount_point = option_map (inherited_mount_point nat_eq now (number ∷ [])) (so.change mount).mount_point;
         }))
     apart_next mount m its true place p = none_is_some place p
     apart_next mount m its false place p = by (so.change mount).mount_point refl p
       where
         by : (o : Option (Location ℕ)) → (so.change mount).mount_point ≡ o
-            → option_map (mount_point_left nat_eq now (number ∷ [])) o ≡ Some place
+            → option_map (inherited_mount_point nat_eq now (number ∷ [])) o ≡ Some place
             → is_shared (mount_at nat_eq world place).propagation ≡ false
         by None e q = none_is_some place q
         by (Some at) e q = ap (λ one. is_shared (mount_at nat_eq world one).propagation)
-            (sym (same_Some (mount_point_left nat_eq now (number ∷ []) at) place q))
+            (sym (same_Some (inherited_mount_point nat_eq now (number ∷ []) at) place q))
             ∙ falls_apart at (so.apart_still mount m its at e)
 
     unmounted_now : is_some (mount_numbered nat_eq now number).namespace ≡ true

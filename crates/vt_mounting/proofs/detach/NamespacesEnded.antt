@@ -1,6 +1,6 @@
 -- The world in which a namespace has ended, and what its entries count.
 use Rattle.std.proofs.Common.{◌≡◌, ◌≢◌, refl, sym, ap, subst, ◌∙◌, ⊎_elim, inl, inr, ℕ, ◌+◌, ◌-◌, nat_eq, nat_lt, eqb-true, eq-eqb, Bool, true, false, true≢false, cond, not, ◌&&◌, ◌||◌, List, [], ◌∷◌, map, filter, Option, Some, None, arith, All, nat_le, option_map, option_to_list, leb-false, leb-true, lt-ltb}
-use Rattle.vt_spec.proofs.Common.{Location, Mount, Namespace, Task, World, after_going, and-false, and_parts, common_steps, detached, has_tasks, holds_of, is_going, is_in_ended, is_listed, list_all, list_any, map_alike, mount_at, mount_in, mount_numbered, mount_point_left, not-true, regrouped, same_Some, taken_away, with_mounts}
+use Rattle.vt_spec.proofs.Common.{Location, Mount, Namespace, Task, World, after_going, and-false, and_parts, common_steps, detached, has_tasks, holds_of, is_going, is_in_ended, is_listed, list_all, list_any, map_alike, mount_at, mount_in, mount_numbered, inherited_mount_point, not-true, regrouped, same_Some, taken_away, with_mounts}
 use Rattle.vt_mounting.proofs.Common.{Among, CountsWhatIsInIt, NamespaceEntry, OneNumberAMount, Tasks, all_from_among, among-from_filter, among-from_map, among-map, among_numbers, any_from_among, counted, counted_test, filter_all, found_itself, is_among_numbers, namespace_of, none_from_among, times}
 use Rattle.vt_mounting.specs.Detach.NamespacesLeft.{entries_left, has_one_task, left_if, namespace_entry, one_task_less, with_one_task_less}
 use Rattle.vt_mounting.proofs.detach.LostUses.{positive}
@@ -46,23 +46,23 @@ module _ (world : World ℕ) (one : OneNumberAMount world.mounts) (goes : Mount 
           cc (was.1, found_itself world.mounts one from.0 was.0, from.2)
 
   place_stays : (place : Location ℕ) → is_going nat_eq gone place.mount ≡ false
-      → mount_point_left nat_eq world gone place ≡ place
+      → inherited_mount_point nat_eq world gone place ≡ place
   place_stays place e = grind (arith, common_steps)
 
   taken_so : map (after_going nat_eq world gone) world.mounts ≡ map (gone_if goes) world.mounts
   taken_so = map_alike (after_going nat_eq world gone) (gone_if goes) world.mounts (λ mount m.
       ap (λ b. cond b (detached mount)
-      (record mount { mount_point = option_map (mount_point_left nat_eq world gone) mount.mount_point }))
+      (record mount { mount_point = option_map (inherited_mount_point nat_eq world gone) mount.mount_point }))
       (going_is mount m) ∙ by mount m (goes mount) refl)
     where
       same : (mount : Mount ℕ) → Among mount world.mounts → goes mount ≡ false → (o : Option (Location ℕ))
-          → mount.mount_point ≡ o → option_map (mount_point_left nat_eq world gone) o ≡ o
+          → mount.mount_point ≡ o → option_map (inherited_mount_point nat_eq world gone) o ≡ o
       same mount m e None f = refl
       same mount m e (Some place) f = ap Some (place_stays place (not_going place.mount (stays mount m e place f)))
 
       by : (mount : Mount ℕ) → Among mount world.mounts → (b : Bool) → goes mount ≡ b
           → cond b (detached mount) (record mount {
-            mount_point = option_map (mount_point_left nat_eq world gone) mount.mount_point;
+            mount_point = option_map (inherited_mount_point nat_eq world gone) mount.mount_point;
           }) ≡ cond b (detached mount) mount
       by mount m true e = refl
       by mount m false e = λ i. record mount { mount_point = same mount m e mount.mount_point refl i }

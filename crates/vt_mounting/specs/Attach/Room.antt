@@ -9,10 +9,6 @@ use Rattle.vt_location.specs.Numbers.{counted}
 use Rattle.vt_spec.specs.Inodes.{uses_in}
 use Rattle.vt_mounting.specs.Detach.Uses.{Merged, inode_of, merged_at, mounts_shown}
 
--- the most that is counted
-abbrev pub most_counted : ℕ
-most_counted = 18446744073709551615
-
 -- how often an inode is in use
 abbrev pub uses_shown : Inode → List Shown → ℕ
 uses_shown inode all =

@@ -3,17 +3,17 @@ use Rattle.std.specs.Prelude.{List, if◌then◌else◌, map, nat_eq, ℕ, ◌+�
 use Rattle.vt_fs.specs.FilesystemsValue.{Filesystems, inodes_at}
 use Rattle.vt_location.specs.declared.locations.Location.{Location}
 use Rattle.vt_location.specs.Locations.{number_of}
-use Rattle.vt_location.specs.Numbers.{counted}
+use Rattle.vt_location.specs.Numbers.{counted, most_counted}
 use Rattle.vt_mount.specs.MountsValue.{MountEntry, uses_of, writers_of}
 use Rattle.vt_spec.specs.Inodes.{uses_in}
 use Rattle.vt_world.specs.WorldValue.{NamespaceEntry}
 
 -- the mount and the inode of a location may get so many uses more, none of them open for writing
 pub record HasRoom (more : ℕ) (at : Location) (mounts : List MountEntry) (filesystems : Filesystems) : Type 0 where
-  pub uses : uses_of mounts (counted at.mount.count) + more ≤ 18446744073709551615
-  pub writers : writers_of mounts (counted at.mount.count) < 18446744073709551615
+  pub uses : uses_of mounts (counted at.mount.count) + more ≤ most_counted
+  pub writers : writers_of mounts (counted at.mount.count) < most_counted
   pub inode : uses_in ((inodes_at filesystems at.node.filesystem.count).inode
-      (number_of at.node)) + more ≤ 18446744073709551615
+      (number_of at.node)) + more ≤ most_counted
 
 -- the namespaces, with one task more in that of this count
 abbrev pub more_tasks : NamespaceEntry → NamespaceEntry

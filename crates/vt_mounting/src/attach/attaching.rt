@@ -3,10 +3,10 @@ ghost use Rattle.std.specs.Prelude.{◌≡◌, ◌&&◌, ◌-◌, ◌*◌, lengt
 ghost use Rattle.std.specs.List.{list_all};
 ghost use Rattle.vt_fs.specs.FilesystemsValue.{shown};
 ghost use Rattle.vt_location.specs.Locations.{is_small_node};
-ghost use Rattle.vt_location.specs.Numbers.{filesystem_number};
+ghost use Rattle.vt_location.specs.Numbers.{filesystem_number, most_counted};
 ghost use Rattle.vt_spec.specs.Lists.{folded};
 ghost use Rattle.vt_mounting.specs.Attach.Room as meant;
-ghost use Rattle.vt_mounting.specs.Attach.Room.{has_small_nodes, merged_has_room, most_counted, point_is_small, uses_shown};
+ghost use Rattle.vt_mounting.specs.Attach.Room.{has_small_nodes, merged_has_room, point_is_small, uses_shown};
 ghost use Rattle.vt_mounting.specs.Detach.Stored.{OverlaysStay, merged_of};
 ghost use Rattle.vt_mounting.specs.Detach.Uses.{inode_of, merged_by, mounts_shown, pinned_at, shown_by};
 

@@ -8,9 +8,10 @@ ghost use Rattle.vt_location.specs.Locations.{location_of};
 ghost use Rattle.vt_location.specs.MountValue.{mount_of};
 ghost use Rattle.vt_mount.specs.MountsValue.{ComeAfter, mounts_in};
 ghost use Rattle.vt_spec.specs.Lists.{folded};
+ghost use Rattle.vt_location.specs.Numbers.{most_counted};
 ghost use Rattle.vt_mounting.specs.Attach.Planned.{AreMoves, is_small, left_of, pinned_by, points_left, points_taken};
 ghost use Rattle.vt_mounting.specs.Attach.Planned.{taken_of, unpinned_by, with_planned, with_points};
-ghost use Rattle.vt_mounting.specs.Attach.Room.{has_room, has_small_nodes, merged_has_room, most_counted, point_has_room};
+ghost use Rattle.vt_mounting.specs.Attach.Room.{has_room, has_small_nodes, merged_has_room, point_has_room};
 ghost use Rattle.vt_mounting.specs.Detach.Stored.{OverlaysStay, kept, merged_of};
 ghost use Rattle.vt_mounting.specs.Detach.Uses.{shown_by, unused_entry};
 

@@ -1,6 +1,6 @@
 -- What is made by the masters that are kept is what is made in the world.
 use Rattle.std.proofs.Common.{◌≡◌, ℕ, Bool, true, cond, suc, zero, List, [], ◌∷◌, map, length, nat_eq, Option, None, Some, option_map, flat_map, is_some, refl, sym, ap, ◌∙◌, true≢false, ⊎_elim, subst, find, filter_map, if◌then◌else◌, not, slice_get, unwrap_or, arith}
-use Rattle.vt_spec.proofs.Common.{Among, Copies, HasLivingGroups, Lives, Location, Mount, Private, Propagation, Shared, Slave, Twig, Unbindable, World, all_groups_made, among-from_filter, among_from_all, chain, chain_ends, chain_goes_on, common_steps, cons_option, copies_at, copies_from, copy_at, copy_mount_point, copy_number, copy_type, graft_of, group_made, group_of, groups_up, has_master, has_members, has_no_master, image, is_destination, is_member_of, map_twice, mount_at, nearest_image, no_mount, parts_of, receivers_of, same_Some, slave_of_heir, source_of, takes_part, then_some, twig_master, twig_of, when}
+use Rattle.vt_spec.proofs.Common.{Among, Copies, HasLivingGroups, Lives, Location, Mount, Private, Propagation, Shared, Slave, Twig, Unbindable, World, all_groups_made, among-from_filter, among_from_all, chain, chain_ends, chain_goes_on, common_steps, cons_option, copies_at, copies_from, copy_at, copy_mount_point, copy_number, copy_type, graft_of, group_made, group_of, groups_up, has_master, has_members, has_no_master, image, is_destination, is_member_of, map_twice, mount_at, image_of_nearest_group, no_mount, parts_of, receivers_of, same_Some, slave_of_heir, source_of, takes_part, then_some, twig_master, twig_of, when}
 use Rattle.vt_spec.specs.Machine.Attach as meant
 use Rattle.vt_group.specs.Grouping.{Grouping, master_in}
 use Rattle.vt_location.specs.Locations.{location_of}
@@ -38,7 +38,7 @@ module _ {A B : Type 0} where
 
 module _ (world : World ℕ) (copying : Copying) (origin : Mount ℕ) where
   abbrev nearest : Option ℕ → Option ℕ
-  nearest master = nearest_image nat_eq world (supply copying) (parts_seen copying) (mount_of copying.destination)
+  nearest master = image_of_nearest_group nat_eq world (supply copying) (parts_seen copying) (mount_of copying.destination)
       (twig copying origin) master
 
   type_by_master-nearest_master_of : (kind : Propagation ℕ) → type_by_master copying (nearest_master_of world copying kind) origin kind
@@ -109,8 +109,8 @@ module _ {world : World ℕ} {kept : List MountEntry} {grouping : Grouping} (see
 
   module _ (new : Copies ℕ) (parts : List (Mount ℕ)) (destination : Mount ℕ) (one : Twig ℕ) where
     nearest_alike : (group : ℕ) → Lives members world.master group
-        → nearest_image nat_eq (as_kept kept grouping) new parts destination one (Some group)
-        ≡ nearest_image nat_eq world new parts destination one (Some group)
+        → image_of_nearest_group nat_eq (as_kept kept grouping) new parts destination one (Some group)
+        ≡ image_of_nearest_group nat_eq world new parts destination one (Some group)
     nearest_alike group life = ap (λ groups.
         option_map (image nat_eq new destination one) (find (has_members nat_eq parts) groups)) (up_alike group life)
 
@@ -124,14 +124,14 @@ module _ {world : World ℕ} {kept : List MountEntry} {grouping : Grouping} (see
 
     -- the image of the groups above a living group
     above_alike : (group : ℕ) → Lives members world.master group
-        → nearest_image nat_eq (as_kept kept grouping) new parts destination one (master_in grouping group)
-        ≡ nearest_image nat_eq world new parts destination one (world.master group)
+        → image_of_nearest_group nat_eq (as_kept kept grouping) new parts destination one (master_in grouping group)
+        ≡ image_of_nearest_group nat_eq world new parts destination one (world.master group)
     above_alike group (has_no_master it has none) =
-        ap (nearest_image nat_eq (as_kept kept grouping) new parts destination one) (same_master it has ∙ none)
-        ∙ sym (ap (nearest_image nat_eq world new parts destination one) none)
+        ap (image_of_nearest_group nat_eq (as_kept kept grouping) new parts destination one) (same_master it has ∙ none)
+        ∙ sym (ap (image_of_nearest_group nat_eq world new parts destination one) none)
     above_alike group (has_master it above has some later) =
-        ap (nearest_image nat_eq (as_kept kept grouping) new parts destination one) (same_master it has ∙ some)
-        ∙ nearest_alike above later ∙ sym (ap (nearest_image nat_eq world new parts destination one) some)
+        ap (image_of_nearest_group nat_eq (as_kept kept grouping) new parts destination one) (same_master it has ∙ some)
+        ∙ nearest_alike above later ∙ sym (ap (image_of_nearest_group nat_eq world new parts destination one) some)
 
   -- Copies and groups, where the first part is the mount at the destination
 
@@ -187,7 +187,7 @@ module _ {world : World ℕ} {kept : List MountEntry} {grouping : Grouping} (see
         else then_some (group_of part.propagation) (λ group.
         when (not (is_member_of nat_eq group destination)) (
           image nat_eq (supply copying) destination (grown_at destination origin) group,
-          nearest_image nat_eq world (supply copying) (parts_seen copying) destination (grown_at destination origin)
+          image_of_nearest_group nat_eq world (supply copying) (parts_seen copying) destination (grown_at destination origin)
               (world.master group),
         ))
 
@@ -205,10 +205,10 @@ module _ {world : World ℕ} {kept : List MountEntry} {grouping : Grouping} (see
       where
         by : (kind : Propagation ℕ) → ((group : ℕ) → source_of kind ≡ Some group → Lives members world.master group)
             → then_some (group_of kind) (λ group.
-            new_with origin (nearest_image nat_eq (as_kept kept grouping) (supply copying) (parts_seen copying)
+            new_with origin (image_of_nearest_group nat_eq (as_kept kept grouping) (supply copying) (parts_seen copying)
             (mount_of copying.destination) (twig copying origin) (master_in grouping group)) group)
             ≡ then_some (group_of kind) (λ group.
-            new_with origin (nearest_image nat_eq world (supply copying) (parts_seen copying)
+            new_with origin (image_of_nearest_group nat_eq world (supply copying) (parts_seen copying)
             (mount_of copying.destination) (twig copying origin) (world.master group)) group)
         by (Shared group) living = ap (λ master. new_with origin master group)
             (above_alike (supply copying) (parts_seen copying) (mount_of copying.destination)

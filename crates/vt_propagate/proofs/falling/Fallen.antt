@@ -1,6 +1,6 @@
 -- The mounts that stay where others are detached, by a list of their new mount points.
 use Rattle.std.proofs.Common.{◌≡◌, ℕ, Bool, true, false, List, [], ◌∷◌, map, nat_eq, Option, None, Some, option_map, is_some, refl, sym, ap, subst, ◌∙◌, inl, inr, eq-eqb, true≢false, length, eqb-true, All, if◌then◌else◌, unwrap_or, arith}
-use Rattle.vt_spec.proofs.Common.{Among, Location, Mount, World, after_going, all_from_among, among-filter, among-filter_map, among-flat_map, among-from_filter_map, among-from_flat_map, among-map, among_numbers, children, common_steps, detached, holds_of, is_going, lookup, mount_in, mount_point_left, mount_point_of_parent, no_mount, or_else, regrouped, same_Some, stands_on, then_some, with_mounts}
+use Rattle.vt_spec.proofs.Common.{Among, Location, Mount, World, after_going, all_from_among, among-filter, among-filter_map, among-flat_map, among-from_filter_map, among-from_flat_map, among-map, among_numbers, children, common_steps, detached, holds_of, is_going, lookup, mount_in, inherited_mount_point, mount_point_of_parent, no_mount, or_else, regrouped, same_Some, stands_on, then_some, with_mounts}
 use Rattle.vt_mount.proofs.PointLemmas.{end-here}
 use Rattle.vt_mount.specs.MountsValue.{are_ascending}
 use Rattle.vt_propagate.specs.Falling.{FallsTo, LeavesBy, all_points_left, left_by, moved_by, of_mounts, point_left, point_left_of, points_left_on}
@@ -15,19 +15,19 @@ module _ (mounts : List (Mount ℕ)) (gone : List ℕ) (number : ℕ) {mount : M
   left_none : is_going nat_eq gone number ≡ true → None ≡ point_left_of mounts gone number
   left_none is = sym (ap (λ b. if b then None else option_map (λ place. (
     mount.number,
-    mount_point_left nat_eq (of_mounts mounts) gone place,
+    inherited_mount_point nat_eq (of_mounts mounts) gone place,
   )) mount.mount_point) (ap (is_going nat_eq gone) (sym (numbered-number mounts number mount found)) ∙ is))
       ∙ ap (λ o. then_some o (point_left mounts gone)) found
 
   -- one that stays gets the place that is left below it
   pub left_some : is_going nat_eq gone number ≡ false → {place : Location ℕ} → mount.mount_point ≡ Some place
-      → Some (number, mount_point_left nat_eq (of_mounts mounts) gone place) ≡ point_left_of mounts gone number
-  left_some stays {place} at = ap (λ n. Some (n, mount_point_left nat_eq (of_mounts mounts) gone place))
+      → Some (number, inherited_mount_point nat_eq (of_mounts mounts) gone place) ≡ point_left_of mounts gone number
+  left_some stays {place} at = ap (λ n. Some (n, inherited_mount_point nat_eq (of_mounts mounts) gone place))
       (numbered-number mounts number mount found)
-      ∙ ap (option_map (λ place. (mount.number, mount_point_left nat_eq (of_mounts mounts) gone place))) (sym at)
+      ∙ ap (option_map (λ place. (mount.number, inherited_mount_point nat_eq (of_mounts mounts) gone place))) (sym at)
       ∙ sym (ap (λ b. if b then None else option_map (λ place. (
         mount.number,
-        mount_point_left nat_eq (of_mounts mounts) gone place,
+        inherited_mount_point nat_eq (of_mounts mounts) gone place,
       )) mount.mount_point) (ap (is_going nat_eq gone) (sym (numbered-number mounts number mount found)) ∙ stays))
       ∙ ap (λ o. then_some o (point_left mounts gone)) found
 
@@ -61,7 +61,7 @@ module _ (world : World ℕ) (up : are_ascending world.mounts ≡ true) (gone : 
   points = all_points_left world.mounts gone
 
   abbrev left : Location ℕ → Location ℕ
-  left place = mount_point_left nat_eq world gone place
+  left place = inherited_mount_point nat_eq world gone place
 
   -- what an entry tells of the mount with its number
   entry_tells : (mount : Mount ℕ) → Among mount world.mounts → (place : Location ℕ) → Among (mount.number, place) points

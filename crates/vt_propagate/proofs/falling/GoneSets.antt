@@ -2,8 +2,7 @@
 use Rattle.std.proofs.Common.{◌≡◌, ℕ, true, false, cond, List, [], ◌∷◌, ◌+◌, ◌<◌, ◌≤◌, ◌++◌, ◌||◌, length-append, sym, flat_map, map, nat_eq, refl, ap, ◌∙◌, get_or, length, take, filter_map, arith}
 use Rattle.vt_spec.proofs.Common.{Mount, common_steps, filter_none, list_any, list_any-append, map-append, or_false_left, or_false_right, stands_on}
 use Rattle.vt_location.specs.declared.numbers.MountId.{MountId}
-use Rattle.vt_location.specs.Numbers.{counted}
-use Rattle.vt_mount.specs.Listed.{same_id}
+use Rattle.vt_location.specs.Numbers.{counted, same_id}
 use Rattle.vt_propagate.specs.Falling.{HasJust, HasMore, IsKnown, point_left_of, points_left_on}
 use Rattle.vt_propagate.proofs.Found.{counts}
 

@@ -1,6 +1,6 @@
 -- The events of a lazy unmount in turn, each seen through the mounts that those before it detached.
 use Rattle.std.proofs.Common.{◌≡◌, ◌<◌, ◌≤◌, ◌+◌, refl, sym, ap, subst, ◌∙◌, ℕ, nat_eq, Bool, true, false, true≢false, ◌||◌, ◌&&◌, not, List, [], ◌∷◌, ◌++◌, drop, filter, get_or, length, Some, is_some, option_map, ⊎_elim, append-nil, append_assoc, if◌then◌else◌, arith}
-use Rattle.vt_spec.proofs.Common.{Location, Mount, MountInvariants, World, after_going, among-filter, among-from_map, any_among, any_from_among, children, common_steps, detached, drop_all, drop_more, going, has_members, is_going, is_member_of, list_any-append, may_go, mount_in, mount_numbered, mount_point_left, none_among, receivers, root_of, same_Some, stands_on, taken_away, unmounted, unmounted_if_there, without_dead_groups}
+use Rattle.vt_spec.proofs.Common.{Location, Mount, MountInvariants, World, after_going, among-filter, among-from_map, any_among, any_from_among, children, common_steps, detached, drop_all, drop_more, going, has_members, is_going, is_member_of, list_any-append, may_go, mount_in, mount_numbered, inherited_mount_point, none_among, receivers, root_of, same_Some, stands_on, taken_away, unmounted, unmounted_if_there, without_dead_groups}
 use Rattle.vt_location.specs.declared.numbers.MountId.{MountId}
 use Rattle.vt_location.specs.Numbers.{counted}
 use Rattle.vt_laws_mounts.proofs.ends.EndingLazy.{IsUnderWay, begun, childless, next}
@@ -47,7 +47,7 @@ had_members world gone group has =
     (by from.0 (is_going nat_eq gone from.0.number) (ap (is_member_of nat_eq group) (sym from.2) ∙ member.2))
   where
     by : (mount : Mount ℕ) (b : Bool) → is_member_of nat_eq group (if b then detached mount else (record mount {
-      mount_point = option_map (mount_point_left nat_eq world gone) mount.mount_point;
+      mount_point = option_map (inherited_mount_point nat_eq world gone) mount.mount_point;
     })) ≡ true → is_member_of nat_eq group mount ≡ true
     by mount true e = absurd (true≢false (sym e))
     by mount false e = e

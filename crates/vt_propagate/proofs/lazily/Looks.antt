@@ -1,6 +1,6 @@
 -- Mounts as earlier events left them, seen through those that are gone: which mounts the next event detaches.
 use Rattle.std.proofs.Common.{◌≡◌, refl, sym, ap, subst, ◌∙◌, ℕ, nat_eq, eq-eqb, eqb-true, Bool, true, false, true≢false, cond, ◌||◌, not, List, [], ◌∷◌, filter, Option, None, Some, is_some, option_map, inl, inr, ⊎_elim, filter_map, find, if◌then◌else◌, unwrap_or, arith}
-use Rattle.vt_spec.proofs.Common.{Among, Location, Mount, MountInvariants, World, after_going, among-filter, among-from_filter, among-map, among_from_list_all, any_from_among, any_pair, child_at, children, common_steps, cons_option, detached, false_from_ne_true, found_or_none, goes_at, going, going_at, going_from, group_of, has_members, holds_of, is_going, is_member_of, is_shared, list_all_from_among, may_go, mount_at, mount_in, mount_numbered, mount_point_left, none_among, only_cover, or_parts, pair-filter, receivers, root_of, same_Some, same_truth, share_a_mount_point, stands_at, stands_on, taken_away, then_some, when}
+use Rattle.vt_spec.proofs.Common.{Among, Location, Mount, MountInvariants, World, after_going, among-filter, among-from_filter, among-map, among_from_list_all, any_from_among, any_pair, child_at, children, common_steps, cons_option, detached, false_from_ne_true, found_or_none, goes_at, going, going_at, going_from, group_of, has_members, holds_of, is_going, is_member_of, is_shared, list_all_from_among, may_go, mount_at, mount_in, mount_numbered, inherited_mount_point, none_among, only_cover, or_parts, pair-filter, receivers, root_of, same_Some, same_truth, share_a_mount_point, stands_at, stands_on, taken_away, then_some, when}
 use Rattle.vt_spec.specs.Machine.Detach.{covers_root}
 use Rattle.vt_laws_mounts.specs.Mounts.Unmounting.{KeepsAllButMountPointAndType}
 use Rattle.vt_laws_mounts.specs.Mounts.Unmounting.FallsTo.{rests}
@@ -354,7 +354,7 @@ module _ {start : World ℕ} (at_first : MountInvariants nat_eq start) {now : Wo
             ∙ sym (ap (λ b. going_by start gone number (if b then None else group_at start.mounts place)) there)
 
     point_then : (later number).mount_point
-        ≡ option_map (mount_point_left nat_eq start gone) (before number).mount_point
+        ≡ option_map (inherited_mount_point nat_eq start gone) (before number).mount_point
     point_then = ap (λ (m : Mount ℕ). m.mount_point) (then_is number ∙ taken start gone number)
         ∙ ap (λ (m : Mount ℕ). m.mount_point) (staying_is_placed start gone (before number)
         (ap (is_going nat_eq gone) (number-mount_in start.mounts number) ∙ stays))
@@ -368,12 +368,12 @@ module _ {start : World ℕ} (at_first : MountInvariants nat_eq start) {now : Wo
     pub going_is_seen : going nat_eq now (later number) ≡ going_then start gone number
     going_is_seen = ap (going_at nat_eq now (later number)) point_then ∙ by (before number).mount_point
         ∙ ap (λ o. going_by start gone number
-        (then_some o (λ place. group_at_then start.mounts gone (mount_point_left nat_eq start gone place))))
+        (then_some o (λ place. group_at_then start.mounts gone (inherited_mount_point nat_eq start gone place))))
         (sym found_point)
       where
         by : (o : Option (Location ℕ))
-            → going_at nat_eq now (later number) (option_map (mount_point_left nat_eq start gone) o)
+            → going_at nat_eq now (later number) (option_map (inherited_mount_point nat_eq start gone) o)
             ≡ going_by start gone number
-            (then_some o (λ place. group_at_then start.mounts gone (mount_point_left nat_eq start gone place)))
+            (then_some o (λ place. group_at_then start.mounts gone (inherited_mount_point nat_eq start gone place)))
         by None = own
-        by (Some place) = at_place (mount_point_left nat_eq start gone place)
+        by (Some place) = at_place (inherited_mount_point nat_eq start gone place)

@@ -1,6 +1,6 @@
 -- Who receives from a group once mounts are gone: those that did before, but for these.
 use Rattle.std.proofs.Common.{◌≡◌, refl, sym, ap, subst, ◌∙◌, arith, ℕ, zero, suc, nat_eq, eq-eqb, ne_eqb, option_map, Bool, true, false, true≢false, ◌||◌, ◌&&◌, not, List, [], ◌∷◌, cond, filter, map, length, Option, None, Some, is_some, inl, inr, if◌then◌else◌}
-use Rattle.vt_spec.proofs.Common.{Among, HasLivingGroups, Lives, Mount, Private, Propagation, Shared, Slave, Unbindable, World, after_going, among-map, among_from_all, any_from_among, chain, chain_ends, chain_goes_on, common_steps, detached, groups_up, has_master, has_members, has_no_master, heir, holds_of, inherited, inheriting, is_among, is_going, last_of_chain, last_or, length-map, map_twice, mount_point_left, receivers, receives, source_of, taken_away}
+use Rattle.vt_spec.proofs.Common.{Among, HasLivingGroups, Lives, Mount, Private, Propagation, Shared, Slave, Unbindable, World, after_going, among-map, among_from_all, any_from_among, chain, chain_ends, chain_goes_on, common_steps, detached, groups_up, has_master, has_members, has_no_master, heir, holds_of, inherited, inheriting, is_among, is_going, last_of_chain, last_or, length-map, map_twice, inherited_mount_point, receivers, receives, source_of, taken_away}
 use Rattle.vt_group.proofs.Heirs.{heir_above, heir_itself, master_inherited}
 use Rattle.vt_group.proofs.Living.{group_lives}
 use Rattle.vt_group.proofs.Receiving.{Ends, chain_same, living_ends}
@@ -96,7 +96,7 @@ module _ (world : World ℕ) (live : AllGroupsLive world) (gone : List ℕ) wher
     -- one mount
     module _ (mount : Mount ℕ) (m : Among mount world.mounts) where
       abbrev fallen : Mount ℕ
-      fallen = record mount { mount_point = option_map (mount_point_left nat_eq world gone) mount.mount_point }
+      fallen = record mount { mount_point = option_map (inherited_mount_point nat_eq world gone) mount.mount_point }
 
       abbrev after_if : Bool → Mount ℕ
       after_if goes = inheriting nat_eq between (if goes then detached mount else fallen)

@@ -482,13 +482,11 @@ directive_words name words =
     else if bytes_eq name (codes "sealed") then some_tasks words
     else None
 
--- Which calls and directives a grammar has: a call by its name and its words, since of the calls by one name it may
--- have some and not others, a directive by its name. A line with anything else is not of the grammar. Of the options of
--- overlays it may know some and not others: with any other a text is no list of options.
+-- Which calls and directives a grammar has, each by its name: a line with another is not of the grammar. Of the options
+-- of overlays it may know some and not others: with any other a text is no list of options.
 pub record Grammar : Type 0 where
   pub version : Version
   pub knows : List ℕ → Bool
-  pub has : Call → Bool
   pub options : OverlayWords → Bool
   pub directs : List ℕ → Bool
 
@@ -499,16 +497,6 @@ file_call_names =
     ∷ codes "mkdir" ∷ codes "symlink" ∷ codes "link" ∷ codes "unlink" ∷ codes "rmdir" ∷ codes "rename"
     ∷ codes "chmod" ∷ codes "chown" ∷ codes "open" ∷ codes "pread" ∷ codes "pwrite" ∷ codes "close"
     ∷ codes "umask" ∷ codes "drop" ∷ codes "fork" ∷ codes "exit" ∷ []
-
--- the calls on files and tasks alone, of one tree
-abbrev pub files : Grammar
-files = record {
-  version = One;
-  knows = λ name. list_any (bytes_eq name) file_call_names;
-  has = λ call. true;
-  options = λ words. true;
-  directs = λ name. false;
-}
 
 -- the names of the calls on mounts, and on the places and namespaces of tasks
 abbrev pub mounting_call_names : List (List ℕ)
@@ -538,7 +526,6 @@ overlays version = record {
   version = version;
   knows = λ name. list_any (bytes_eq name)
       (file_call_names ++ mounting_call_names ++ marking_call_names ++ pivoting_call_names);
-  has = λ call. true;
   options = names_no_upper;
   directs = λ name. true;
 }
@@ -548,7 +535,6 @@ abbrev pub whole : Version → Grammar
 whole version = record {
   version = version;
   knows = λ name. true;
-  has = λ call. true;
   options = λ words. true;
   directs = λ name. true;
 }
@@ -581,8 +567,7 @@ abbrev pub call_asked : Grammar → TaskName → List (List ℕ) → Option Requ
 call_asked grammar task [] = None
 call_asked grammar task (name ∷ words) =
     if grammar.knows name then
-    option_map (Calling task) (then_some (call_words grammar.version name words)
-    (λ call. when (grammar.has call) (call_read grammar.options call)))
+    option_map (Calling task) (option_map (call_read grammar.options) (call_words grammar.version name words))
     else None
 
 -- the directive that the words after `!` ask for

@@ -95,16 +95,16 @@ module _ {N : Type 0} (eq : N → N → Bool) where
       else new.image group twig.origin.number
 
   -- the image of the nearest group with a part, from this group up the masters
-  abbrev pub nearest_image : World N → Copies N → List (Mount N) → Mount N → Twig N → Option N → Option N
-  nearest_image world new parts destination twig None = None
-  nearest_image world new parts destination twig (Some group) =
+  abbrev pub image_of_nearest_group : World N → Copies N → List (Mount N) → Mount N → Twig N → Option N → Option N
+  image_of_nearest_group world new parts destination twig None = None
+  image_of_nearest_group world new parts destination twig (Some group) =
       option_map (image new destination twig) (find (has_members eq parts) (groups_up world group))
 
   -- the type of a copy, by the type of its receiver (profile)
   abbrev pub copy_type : World N → Copies N → List (Mount N) → Mount N → Twig N → Propagation N → Propagation N
   copy_type world new parts destination twig (Shared group) = Shared (image new destination twig group)
   copy_type world new parts destination twig (Slave master) =
-      slave_of_heir (nearest_image world new parts destination twig (Some master))
+      slave_of_heir (image_of_nearest_group world new parts destination twig (Some master))
   copy_type world new parts destination twig Private = Private
   copy_type world new parts destination twig Unbindable = Unbindable
 
@@ -170,7 +170,7 @@ module _ {N : Type 0} (eq : N → N → Bool) where
         else then_some (group_of part.propagation) (λ group.
         when (not (is_member_of eq group (mount_at eq world graft.destination))) (
           image new (mount_at eq world graft.destination) twig group,
-          nearest_image world new parts (mount_at eq world graft.destination) twig (world.master group),
+          image_of_nearest_group world new parts (mount_at eq world graft.destination) twig (world.master group),
         ))
 
     -- the copy of a mount at a part, or at the destination the mount itself that moves: the number, namespace, mount
@@ -194,8 +194,8 @@ module _ {N : Type 0} (eq : N → N → Bool) where
         record mount { mount_point = Some (top_of_copies (copies_at part) graft.destination) }
 
     -- a mount after the attachment: it has another mount point where a copy took its own at a receiver
-    abbrev pub pushed_up : Mount N → Mount N
-    pushed_up mount = pushed_onto mount (receiver_stood_on graft parts mount)
+    abbrev pub moved_onto_copy : Mount N → Mount N
+    moved_onto_copy mount = pushed_onto mount (receiver_stood_on graft parts mount)
 
     -- all new groups that copies form, each with its master
     abbrev pub all_groups_made : List (N × Option N)
@@ -204,7 +204,7 @@ module _ {N : Type 0} (eq : N → N → Bool) where
     -- the world with the tree attached, at the destination first, then at the receivers in order of attachment
     abbrev pub attached_at : World N
     attached_at = record world {
-      mounts = map pushed_up
+      mounts = map moved_onto_copy
           (with_moved_mounts graft.moves world.mounts (copies_at (mount_at eq world graft.destination)))
           ++ added_mounts graft.moves (copies_at (mount_at eq world graft.destination))
           ++ flat_map copies_at (rest_of parts);

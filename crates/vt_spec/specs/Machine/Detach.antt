@@ -66,15 +66,15 @@ module _ {N : Type 0} (eq : N → N → Bool) where
 
   -- The mount point of a mount that stays. Where its parent is detached it takes that one's mount point, and so on
   -- (profile).
-  abbrev pub mount_point_left : World N → List N → Location N → Location N
-  mount_point_left world gone point =
+  abbrev pub inherited_mount_point : World N → List N → Location N → Location N
+  inherited_mount_point world gone point =
       last_or point (chain (length world.mounts) (mount_point_of_parent world gone) point)
 
   -- a mount after the event: detached, or with the mount point that is left for it
   abbrev pub after_going : World N → List N → Mount N → Mount N
   after_going world gone mount =
       if is_going gone mount.number then detached mount
-      else record mount { mount_point = option_map (mount_point_left world gone) mount.mount_point }
+      else record mount { mount_point = option_map (inherited_mount_point world gone) mount.mount_point }
 
   -- the world with these mounts detached, and without peer groups that have no member: umount(2)
   abbrev pub taken_away : World N → List N → World N

@@ -170,15 +170,15 @@ module _ {N : Type 0} (eq : N → N → Bool) where
       ++ directories_changed change
 
   -- the directories above, from the nearest one in the upper layer down
-  abbrev pub from_nearest_upper : FileTree N → Overlay N → N → List N
-  from_nearest_upper files overlay directory =
+  abbrev pub ancestors_from_upper_layer : FileTree N → Overlay N → N → List N
+  ancestors_from_upper_layer files overlay directory =
       before_first (λ d. not (lies_only_in_lowers overlay d)) (ancestors eq files directory)
       ++ option_to_list (find (λ d. not (lies_only_in_lowers overlay d)) (ancestors eq files directory))
 
   -- the directories that the mounter has to be able to write and search
   abbrev pub parents_asked : Filesystem N → Overlay N → Change N → List N
   parents_asked filesystem overlay change =
-      flat_map (from_nearest_upper filesystem.files overlay) (directories_asked filesystem overlay change)
+      flat_map (ancestors_from_upper_layer filesystem.files overlay) (directories_asked filesystem overlay change)
 
   -- the objects that are copied up, missing parents included
   abbrev pub copies : Filesystem N → Overlay N → Change N → List N

@@ -52,8 +52,8 @@ module _ {N : Type 0} (eq : N → N → Bool) where
 
   -- Such an upper inode of a live overlay counts as under its upper directory, even without a name, and so as under
   -- each layer in which that directory lies.
-  abbrev pub counts_in_layer : World N → N → N → Layer N → Filesystem N → Bool
-  counts_in_layer world filesystem object layer merged =
+  abbrev pub counts_as_in_layer : World N → N → N → Layer N → Filesystem N → Bool
+  counts_as_in_layer world filesystem object layer merged =
       of_overlay false (λ overlay.
       holds_of (λ upper. lies_in_layer world upper.filesystem upper.directory layer) overlay.upper
       && is_object_of filesystem object merged overlay) merged
@@ -62,7 +62,7 @@ module _ {N : Type 0} (eq : N → N → Bool) where
   abbrev pub lies_or_counts_under : World N → N → N → Layer N → Bool
   lies_or_counts_under world filesystem object layer =
       lies_in_layer world filesystem object layer
-      || list_any (counts_in_layer world filesystem object layer) (overlays world)
+      || list_any (counts_as_in_layer world filesystem object layer) (overlays world)
 
   -- L1: the inode lies or counts under a layer of a live overlay
   abbrev pub is_locked : World N → N → N → Bool

@@ -97,16 +97,16 @@ module _ {N : Type 0} (eq : N → N → Bool) where
     change = raised after_call.change;
   }
 
-  -- after a call that changed the world, what nothing uses is removed and change numbers are raised
-  abbrev pub finished_by : (changes : Bool) → World N → TaskName → List N → Outcome N → Outcome N
-  finished_by true before name changed outcome = outcome
-  finished_by false before name changed outcome =
+  -- unless the world is unchanged, what nothing uses is removed and change numbers are raised
+  abbrev pub finished_unless : (is_unchanged : Bool) → World N → TaskName → List N → Outcome N → Outcome N
+  finished_unless true before name changed outcome = outcome
+  finished_unless false before name changed outcome =
       record outcome { world = numbers_raised before name changed (settled eq outcome.world) }
 
   -- the outcome of a call after the last step, which a call has that changed the world
   abbrev pub finished : World N → TaskName → Call → List N → Outcome N → Outcome N
   finished before name call changed outcome =
-      finished_by (only_looks call || not (is_ok outcome.answer)) before name changed outcome
+      finished_unless (only_looks call || not (is_ok outcome.answer)) before name changed outcome
 
   -- the policy; S2 if no task has this name
   abbrev pub policy : Fresh N → World N → TaskName → Call → Outcome N

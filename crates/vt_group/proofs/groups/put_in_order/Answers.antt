@@ -3,11 +3,11 @@ use Rattle.vt_spec.proofs.Common.{AllByRecursion, common_steps, answers_always, 
 use Rattle.std.proofs.lemmas.List.Kept.{IsStrictlySortedBy-dedup}
 use Rattle.std.specs.List.{dedup, dedup_from, refill}
 use Rattle.std.specs.List.Sorted.{IsStrictlySortedBy}
+use Rattle.vt_location.specs.Numbers.{same_id}
 use Rattle.vt_location.specs.InOrder.{cmp_by}
 use Rattle.vt_location.specs.declared.numbers.MountId.{MountId}
 use Rattle.vt_location.proofs.OrderLemmas.{cmp_total, tied}
 use Rattle.vt_group.specs.Receiving.{is_noted}
-use Rattle.vt_group.specs.Sets.{same_id}
 use Rattle.vt_group.proofs.groups.put_in_order.Goals as goal
 
 abbrev count_of : MountId → ℕ

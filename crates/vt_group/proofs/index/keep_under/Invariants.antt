@@ -1,8 +1,9 @@
 use Rattle.std.proofs.Common.{◌≡◌, IsSome, true}
+use Rattle.vt_location.specs.Numbers.{same_id}
 use Rattle.vt_location.specs.declared.numbers.GroupId.{GroupId}
 use Rattle.vt_location.specs.declared.numbers.MountId.{MountId}
 use Rattle.vt_group.specs.ByNumber.{value_at}
-use Rattle.vt_group.specs.Sets.{has, same_group, same_id}
+use Rattle.vt_group.specs.Sets.{has, same_group}
 use Rattle.vt_group.proofs.index.keep_under.Given as goal
 
 abbrev pub invariant-loop-name : goal.invariant-loop-name

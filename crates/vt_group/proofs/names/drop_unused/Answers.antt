@@ -1,6 +1,7 @@
 use Rattle.std.proofs.Common.{ap, arith, length, length-drop, ◌∙◌}
 use Rattle.vt_spec.proofs.Common.{list_any}
-use Rattle.vt_group.specs.Sets.{has, same_group, same_id}
+use Rattle.vt_location.specs.Numbers.{same_id}
+use Rattle.vt_group.specs.Sets.{has, same_group}
 use Rattle.vt_group.proofs.names.drop_unused.Goals as goal
 use Rattle.vt_group.proofs.names.drop_unused.Goals.{then-first_is_unused, else-first_is_unused}
 

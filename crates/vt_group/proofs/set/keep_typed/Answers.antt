@@ -1,9 +1,10 @@
 use Rattle.std.proofs.Common.{ap, is_some, rules, sym, ◌∙◌}
 use Rattle.vt_spec.proofs.Common.{filter_same, list_any}
+use Rattle.vt_location.specs.Numbers.{same_id}
 use Rattle.vt_location.specs.declared.numbers.MountId.{MountId}
 use Rattle.vt_deque.specs.SliceDeque.{items}
 use Rattle.vt_group.specs.ByNumber.{value_at}
-use Rattle.vt_group.specs.Sets.{elements, same_id}
+use Rattle.vt_group.specs.Sets.{elements}
 use Rattle.vt_group.proofs.IndexLemmas.{any-kept}
 use Rattle.vt_group.proofs.set.keep_typed.Goals as goal
 

@@ -1,8 +1,9 @@
 use Rattle.std.proofs.Common.{ap, cond, is_some, option_map, sym, unwrap_or, ◌∙◌, None, Some, []}
 use Rattle.vt_spec.proofs.Common.{list_any, option_copied_mut}
+use Rattle.vt_location.specs.Numbers.{same_id}
 use Rattle.vt_location.specs.declared.numbers.MountId.{MountId}
 use Rattle.vt_group.specs.declared.sets.Sets.{Sets}
-use Rattle.vt_group.specs.Sets.{elements, same_group, same_id}
+use Rattle.vt_group.specs.Sets.{elements, same_group}
 use Rattle.vt_group.proofs.SetsLemmas.{dropped-empty, has-onto, kept-written}
 use Rattle.vt_group.proofs.sets.keep_typed.Goals as goal
 

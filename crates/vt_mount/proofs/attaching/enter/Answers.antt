@@ -1,10 +1,10 @@
 use Rattle.std.proofs.Common.{Some, cond, ◌≡◌, ap, subst, sym, ◌++◌, ◌∙◌, ◌∷◌, []}
 use Rattle.vt_spec.proofs.Common.{lookup}
+use Rattle.vt_location.specs.Numbers.{same_id}
 use Rattle.vt_location.specs.MountValue.{mount_of}
 use Rattle.vt_location.specs.declared.numbers.MountId.{MountId}
 use Rattle.vt_mount.specs.Indexed.{IsIndexed}
 use Rattle.vt_mount.specs.Indexes.{has_small_point, is_in, is_on}
-use Rattle.vt_mount.specs.Rising.{same_id}
 use Rattle.vt_mount.specs.MountsValue.{entries_of, in_order}
 use Rattle.vt_mount.proofs.EntryLemmas.{above-entries, kept-last}
 use Rattle.vt_mount.proofs.KeptLemmas.{indexed-entered, of-ok, put_behind}

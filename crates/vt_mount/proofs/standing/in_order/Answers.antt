@@ -1,8 +1,9 @@
 use Rattle.std.proofs.Common.{ap, arith, drop, get_or, suc, true, false, Bool, ℕ, ◌≡◌, ◌+◌, ◌∷◌, ◌∙◌}
 use Rattle.std.proofs.Math.Seq.{drop-cons}
+use Rattle.vt_location.specs.Numbers.{same_id}
 use Rattle.vt_mount.specs.Indexes.{count_put}
 use Rattle.vt_mount.specs.Listed.{count_of}
-use Rattle.vt_mount.specs.Rising.{precedes, same_id}
+use Rattle.vt_mount.specs.Rising.{precedes}
 use Rattle.vt_mount.specs.declared.standing.Standing.{Standing}
 use Rattle.vt_mount.proofs.CountLemmas.{count-inserted}
 use Rattle.vt_mount.proofs.StandingLemmas.{mounts_of}

@@ -1,7 +1,8 @@
 use Rattle.std.proofs.Common.{◌≡◌, ◌+◌, drop, map}
+use Rattle.vt_location.specs.Numbers.{same_id}
 use Rattle.vt_location.specs.declared.numbers.MountId.{MountId}
 use Rattle.vt_mount.specs.Listed.{count_of}
-use Rattle.vt_mount.specs.Rising.{held, same_id}
+use Rattle.vt_mount.specs.Rising.{held}
 use Rattle.vt_mount.specs.declared.standing.Standing.{Standing}
 use Rattle.vt_mount.proofs.standing.in_order.Given as goal
 

@@ -1,8 +1,7 @@
 use Rattle.std.proofs.Common.{Bool, ap, cond, false, get_or, nat_eq, refl, take, true, ◌∙◌, ◌≡◌, ◌||◌}
 use Rattle.vt_spec.proofs.Common.{list_any}
 use Rattle.vt_location.specs.declared.numbers.MountId.{MountId}
-use Rattle.vt_location.specs.Numbers.{counted}
-use Rattle.vt_mount.specs.Listed.{same_id}
+use Rattle.vt_location.specs.Numbers.{counted, same_id}
 use Rattle.vt_propagate.proofs.Found.{counts}
 use Rattle.vt_propagate.proofs.falling.GoneSets.{going_more}
 use Rattle.vt_propagate.proofs.falling.note_in_set.Goals as goal

@@ -1,9 +1,8 @@
 use Rattle.std.proofs.Common.{◌≡◌, map, take}
 use Rattle.vt_spec.proofs.Common.{get}
 use Rattle.vt_location.specs.MountValue.{mount_of}
-use Rattle.vt_location.specs.Numbers.{counted}
+use Rattle.vt_location.specs.Numbers.{counted, same_id}
 use Rattle.vt_location.specs.declared.numbers.MountId.{MountId}
-use Rattle.vt_mount.specs.Listed.{same_id}
 use Rattle.vt_propagate.specs.Indexes.{place_of}
 use Rattle.vt_propagate.proofs.indexes.all_places.Given as goal
 

@@ -1,7 +1,7 @@
 use Rattle.std.proofs.Common.{sym, ◌∙◌}
 use Rattle.vt_spec.proofs.Common.{get, none_from_not_some}
+use Rattle.vt_location.specs.Numbers.{same_id}
 use Rattle.vt_location.specs.declared.numbers.MountId.{MountId}
-use Rattle.vt_mount.specs.Listed.{same_id}
 use Rattle.vt_propagate.proofs.Places.{noted}
 use Rattle.vt_propagate.proofs.indexes.note_mount.Goals as goal
 

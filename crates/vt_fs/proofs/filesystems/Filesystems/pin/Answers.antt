@@ -1,6 +1,6 @@
 use Rattle.std.proofs.Common.{ap, arith, true≢false, refl, subst, sym, ◌∙◌, ◌↔◌, ◌≡◌, IsErr, ℕ}
 use Rattle.vt_spec.proofs.Common.{on_err_weaker, on_ok_weaker, option_copied_mut, uses_in}
-use Rattle.vt_fs.specs.Trees.Slots.{most_uses}
+use Rattle.vt_location.specs.Numbers.{most_counted}
 use Rattle.vt_location.specs.Locations.{number_of}
 use Rattle.vt_fs.proofs.Standing.{kept, nothing_changes, pins, standing_of, uses_there}
 use Rattle.vt_fs.proofs.Nowhere.{no_inode_there, pinned_none, unchanged}
@@ -20,7 +20,7 @@ returns-in-Some-slot_in-clause-limit c =
     let f = c.args.object.filesystem.count in
     let standing = standing_of c.args.self.now f c.get_mut.result c.in-Some.tree c.get_mut.ensures.value
     c.get_mut.ensures.apart c.in-Some.is in
-    subst (λ (uses : ℕ). IsErr c.pin.result ↔ (uses ≡ most_uses))
+    subst (λ (uses : ℕ). IsErr c.pin.result ↔ (uses ≡ most_counted))
     (sym (uses_there c.args.self.now f c.in-Some.tree.now standing.found c.in-Some-slot_in.slot _
     c.in-Some-slot_in.ensures.number)) c.pin.ensures.limit
 
@@ -52,5 +52,5 @@ returns-in-None-clause-limit c =
     let none = ap uses_in (no_inode_there c.args.self.now f c.in-Some.tree.now standing.found (number_of c.args.object)
     (c.slot_in.ensures.nowhere c.in-None.is)) in (
       λ failed. absurd (true≢false (sym failed)),
-      λ full. absurd (let no : 0 ≡ most_uses = sym none ∙ full in omega (arith, no)),
+      λ full. absurd (let no : 0 ≡ most_counted = sym none ∙ full in omega (arith, no)),
     )

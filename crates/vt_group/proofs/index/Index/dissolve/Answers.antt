@@ -1,6 +1,7 @@
+use Rattle.vt_location.specs.Numbers.{same_id}
 use Rattle.vt_group.specs.declared.index.Index.{Index}
 use Rattle.vt_group.specs.Names.{names_of}
-use Rattle.vt_group.specs.Sets.{has, same_group, same_id}
+use Rattle.vt_group.specs.Sets.{has, same_group}
 use Rattle.vt_group.proofs.IndexLemmas.{any_still, apart_source, listed_still}
 use Rattle.vt_group.proofs.index.Index.dissolve.Goals as goal
 

@@ -1,9 +1,10 @@
 use Rattle.std.proofs.Common.{ap, ◌∙◌}
 use Rattle.vt_spec.proofs.Common.{then_some}
+use Rattle.vt_location.specs.Numbers.{same_id}
 use Rattle.vt_group.specs.declared.index.Index.{Index}
 use Rattle.vt_group.specs.Indexed.{source_of_kind}
 use Rattle.vt_group.specs.Names.{names_of, names_of_any}
-use Rattle.vt_group.specs.Sets.{has, same_id}
+use Rattle.vt_group.specs.Sets.{has}
 use Rattle.vt_group.proofs.IndexLemmas.{any_still, listed_still, source_told_kind, stays_under}
 use Rattle.vt_group.proofs.index.Index.leave.Goals as goal
 

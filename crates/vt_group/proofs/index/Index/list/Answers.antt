@@ -1,5 +1,5 @@
+use Rattle.vt_location.specs.Numbers.{same_id}
 use Rattle.vt_group.specs.declared.index.Index.{Index}
-use Rattle.vt_group.specs.Sets.{same_id}
 use Rattle.vt_group.proofs.IndexLemmas.{listed_still, under_still}
 use Rattle.vt_group.proofs.index.Index.list.Goals as goal
 

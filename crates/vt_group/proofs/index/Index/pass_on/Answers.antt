@@ -1,8 +1,9 @@
 use Rattle.std.proofs.Common.{◌≡◌, ap, false, is_some, sym, true, ◌∙◌}
 use Rattle.vt_spec.proofs.Common.{lookup, nat_eq-swapped}
+use Rattle.vt_location.specs.Numbers.{same_id}
 use Rattle.vt_group.specs.declared.index.Index.{Index}
 use Rattle.vt_group.specs.Indexed.{is_relative}
-use Rattle.vt_group.specs.Sets.{has, same_group, same_id}
+use Rattle.vt_group.specs.Sets.{has, same_group}
 use Rattle.vt_group.proofs.index.Inheriting.{handed_group, handed_kind, named_by}
 use Rattle.vt_group.proofs.SetsLemmas.{same_number}
 use Rattle.vt_group.proofs.index.Index.pass_on.Goals as goal

@@ -1,6 +1,7 @@
 use Rattle.std.proofs.Common.{ap, ◌∙◌}
 use Rattle.vt_spec.proofs.Common.{list_any}
-use Rattle.vt_group.specs.Sets.{has, kept_in, same_id}
+use Rattle.vt_location.specs.Numbers.{same_id}
+use Rattle.vt_group.specs.Sets.{has, kept_in}
 use Rattle.vt_group.proofs.IndexLemmas.{any_flat}
 use Rattle.vt_group.proofs.index.Index.relatives.Goals as goal
 

@@ -1,6 +1,7 @@
 use Rattle.std.proofs.Common.{ap, arith, length, ◌∙◌}
 use Rattle.vt_spec.proofs.Common.{list_any}
-use Rattle.vt_group.specs.Sets.{has, same_group, same_id}
+use Rattle.vt_location.specs.Numbers.{same_id}
+use Rattle.vt_group.specs.Sets.{has, same_group}
 use Rattle.vt_group.proofs.name_list.NameList.keep_used.Goals as goal
 
 pub returns-clause-mounts : goal.returns-clause-mounts

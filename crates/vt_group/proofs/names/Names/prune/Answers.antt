@@ -1,7 +1,8 @@
 use Rattle.std.proofs.Common.{ap, arith, is_some, length, sym, ◌==◌, ◌∙◌}
 use Rattle.vt_spec.proofs.Common.{option_copied_mut}
+use Rattle.vt_location.specs.Numbers.{same_id}
 use Rattle.vt_group.specs.Names.{count_names}
-use Rattle.vt_group.specs.Sets.{has, same_group, same_id}
+use Rattle.vt_group.specs.Sets.{has, same_group}
 use Rattle.vt_group.proofs.names.NamesLemmas.{count_written, empty_keeps, names_within, nil_from_none, shorter_keeps}
 use Rattle.vt_group.proofs.names.Names.prune.Goals as goal
 

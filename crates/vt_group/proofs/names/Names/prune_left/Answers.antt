@@ -1,6 +1,7 @@
 use Rattle.std.proofs.Common.{ap, ◌∙◌}
+use Rattle.vt_location.specs.Numbers.{same_id}
 use Rattle.vt_group.specs.Names.{is_under}
-use Rattle.vt_group.specs.Sets.{same_group, same_id}
+use Rattle.vt_group.specs.Sets.{same_group}
 use Rattle.vt_group.proofs.names.Names.prune_left.Goals as goal
 
 pub returns-then-notes_unused-clause-mounts : goal.returns-then-notes_unused-clause-mounts

@@ -1,10 +1,11 @@
 use Rattle.std.proofs.Common.{ap, cond, sym, ◌&&◌, ◌∙◌, ◌≡◌}
 use Rattle.vt_spec.proofs.Common.{holds_of}
+use Rattle.vt_location.specs.Numbers.{same_id}
 use Rattle.vt_location.specs.declared.locations.Location.{Location}
 use Rattle.vt_location.specs.declared.numbers.MountId.{MountId}
 use Rattle.vt_location.specs.SameNodes.{same_node}
 use Rattle.vt_mount.specs.Indexes.{count_at, count_left, count_put, same_place, stood_at, stood_on, taken}
-use Rattle.vt_mount.specs.Listed.{count_of, inserted, listed, same_id}
+use Rattle.vt_mount.specs.Listed.{count_of, inserted, listed}
 use Rattle.vt_mount.specs.Standing.{same_standing, stands_before}
 use Rattle.vt_mount.proofs.CountLemmas.{count-entered, left-put, standing_at}
 use Rattle.vt_mount.proofs.KeptLemmas.{either-way, on-ok}

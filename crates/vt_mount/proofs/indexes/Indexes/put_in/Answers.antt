@@ -1,8 +1,9 @@
 use Rattle.std.proofs.Common.{[], ap, cond, ◌∙◌}
+use Rattle.vt_location.specs.Numbers.{same_id}
 use Rattle.vt_location.proofs.NodeLemmas.{same_node-itself}
 use Rattle.vt_location.specs.declared.locations.Location.{Location}
 use Rattle.vt_location.specs.SameNodes.{same_node}
-use Rattle.vt_mount.specs.Listed.{inserted, listed, same_id}
+use Rattle.vt_mount.specs.Listed.{inserted, listed}
 use Rattle.vt_mount.specs.Standing.{stands_before}
 use Rattle.vt_mount.proofs.CountLemmas.{count-entered}
 use Rattle.vt_mount.proofs.ReservedLemmas.{reserves-less, is-reserved, same_id-itself}

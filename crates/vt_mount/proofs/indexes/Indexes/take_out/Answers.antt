@@ -1,9 +1,10 @@
 use Rattle.std.proofs.Common.{ap, cond, sym, ◌&&◌, ◌∙◌}
 use Rattle.vt_spec.proofs.Common.{holds_of}
+use Rattle.vt_location.specs.Numbers.{same_id}
 use Rattle.vt_location.specs.declared.locations.Location.{Location}
 use Rattle.vt_location.specs.SameNodes.{same_node}
 use Rattle.vt_mount.specs.Indexes.{count_at, count_left, same_place}
-use Rattle.vt_mount.specs.Listed.{listed, same_id}
+use Rattle.vt_mount.specs.Listed.{listed}
 use Rattle.vt_mount.specs.Standing.{same_standing}
 use Rattle.vt_mount.proofs.CountLemmas.{count-gone}
 use Rattle.vt_mount.proofs.RisingLemmas.{others_by}

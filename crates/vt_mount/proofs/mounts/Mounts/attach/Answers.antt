@@ -1,11 +1,10 @@
 use Rattle.std.proofs.Common.{List, [], ap, refl, subst, sym, true, ◌&&◌, ◌++◌, ◌∙◌, ◌∷◌, ◌≡◌, nat_lt}
 use Rattle.vt_spec.proofs.Common.{list_all}
 use Rattle.vt_location.specs.MountValue.{mount_of}
-use Rattle.vt_location.specs.Numbers.{counted}
+use Rattle.vt_location.specs.Numbers.{counted, same_id}
 use Rattle.vt_location.specs.declared.numbers.MountId.{MountId}
 use Rattle.vt_mount.specs.Indexed.{IsIndexed}
 use Rattle.vt_mount.specs.Indexes.{count_at, count_left, has_small_point, is_at, is_in, is_on, listed_in, listed_on, taken}
-use Rattle.vt_mount.specs.Listed.{same_id}
 use Rattle.vt_mount.specs.MountsValue.{MountEntry, in_order, unused_entry, without}
 use Rattle.vt_mount.proofs.EntryLemmas.{above-entries, kept-last}
 use Rattle.vt_mount.proofs.KeptLemmas.{indexed-entered, indexed-restored, is-refused, not-err, put_behind, without-last}

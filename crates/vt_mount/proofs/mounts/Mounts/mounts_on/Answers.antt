@@ -1,12 +1,12 @@
 use Rattle.std.proofs.Common.{◌≡◌, ℕ, Err, IfOk, List, Ok, Result, Vec, ap, filter, map, rules, true, ◌∙◌}
 use Rattle.vt_location.specs.declared.numbers.MountId.{MountId}
 use Rattle.vt_location.specs.Locations.{is_small_node, number_of}
-use Rattle.vt_location.specs.Numbers.{mount_number}
+use Rattle.vt_location.specs.Numbers.{mount_number, same_id}
 use Rattle.vt_mount.specs.Indexed.{numbers_where}
 use Rattle.vt_mount.specs.Indexes.{is_over}
 use Rattle.vt_mount.specs.Listed.{count_of}
 use Rattle.vt_mount.specs.MountsValue.{in_order, mounts_in, stands_over}
-use Rattle.vt_mount.specs.Rising.{precedes, rises, same_id}
+use Rattle.vt_mount.specs.Rising.{precedes, rises}
 use Rattle.vt_mount.specs.Standing.{same_standing}
 use Rattle.vt_mount.proofs.OrderLemmas.{rises-in_order}
 use Rattle.vt_mount.proofs.PlaceLemmas.{numbers as seen_numbers, numbers-seen, over-agrees}

@@ -1,9 +1,9 @@
 use Rattle.std.proofs.Common.{arith, ap, is_some, rules, subst, sym, ◌+◌, ◌≡◌, ◌∙◌, ◌≤◌, leb-true}
+use Rattle.vt_location.specs.Numbers.{most_counted}
 use Rattle.vt_mounting.proofs.Common.{StoreValue, some_copied, with_mounts}
 use Rattle.vt_store.specs.Counts.{mounts_in}
 use Rattle.vt_mounting.specs.Detach.Stored.{under_counts}
 use Rattle.vt_mounting.proofs.detach.OverlaysListed.{counted_stay_in}
-use Rattle.vt_mounting.specs.Attach.Room.{most_counted}
 use Rattle.vt_mounting.proofs.attach.OverlayCounts.{held_over, mounts_are_merged, none_over, overlay_there}
 use Rattle.vt_mounting.proofs.attach.RoomLemmas.{not_refused}
 use Rattle.vt_mounting.proofs.attach.attaching.hold_overlay.Goals as goal

@@ -1,7 +1,8 @@
 use Rattle.std.proofs.Common.{ap, arith, nat_eq, subst, sym, true, ◌≡◌, ◌≤◌, ◌∙◌, leb-true}
 use Rattle.vt_spec.proofs.Common.{pinned, uses_in}
+use Rattle.vt_location.specs.Numbers.{most_counted}
 use Rattle.vt_mounting.proofs.Common.{ChangesInodes, inodes_at, number_of, shown}
-use Rattle.vt_mounting.specs.Attach.Room.{most_counted, point_has_room}
+use Rattle.vt_mounting.specs.Attach.Room.{point_has_room}
 use Rattle.vt_mounting.specs.Detach.Uses.{pinned_at}
 use Rattle.vt_mounting.proofs.attach.RoomLemmas.{not_refused, uses_are_shown}
 use Rattle.vt_mounting.proofs.detach.Shown.{pins}

@@ -1,10 +1,11 @@
 use Rattle.std.proofs.Common.{List, Some, ap, arith, length, map, refl, subst, sym, true, ◌*◌, ◌+◌, ◌-◌, ◌≡◌, ◌∙◌}
 use Rattle.vt_spec.proofs.Common.{folded, length-map, list_all}
+use Rattle.vt_location.specs.Numbers.{most_counted}
 use Rattle.vt_mounting.proofs.Common.{Shown, shown}
 use Rattle.vt_location.specs.declared.locations.Location.{Location}
 use Rattle.vt_mount.specs.declared.moving.Moved.{Moved}
 use Rattle.vt_mounting.specs.Attach.Planned.{left_of, pinned_by, points_taken, taken_of, unpinned_by}
-use Rattle.vt_mounting.specs.Attach.Room.{has_room, most_counted, point_has_room}
+use Rattle.vt_mounting.specs.Attach.Room.{has_room, point_has_room}
 use Rattle.vt_mounting.specs.Detach.Stored.{merged_of}
 use Rattle.vt_mounting.specs.Detach.Uses.{shown_by}
 use Rattle.vt_mounting.proofs.attach.OverlayCounts.{merged_room_stays}

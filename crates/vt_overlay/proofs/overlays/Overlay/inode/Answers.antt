@@ -1,7 +1,7 @@
 use Rattle.std.proofs.Common.{ap, option_map, sym, ◌∙◌, option_copied}
+use Rattle.vt_location.specs.Fronts.{front}
 use Rattle.vt_location.specs.Locations.{number_of}
 use Rattle.vt_overlay.specs.Merge.LayerValue.{seen_of}
-use Rattle.vt_overlay.specs.Alike.{front}
 use Rattle.vt_overlay.proofs.ObjectsAlike.{none_alike, none_lent, some_alike, some_lent}
 use Rattle.vt_overlay.proofs.overlays.Overlay.inode.Goals as goal
 
