@@ -30,7 +30,8 @@ pub use Rattle.vt_laws_mounts.proofs.propagation.OneAttached.{hears_group, later
 pub use Rattle.vt_laws_mounts.proofs.propagation.PropagationUp.{heard, hears, lives_up, no_loop}
 pub use Rattle.vt_laws_mounts.specs.Counts.Using.{Exchanges, is_inode}
 pub use Rattle.vt_laws_mounts.specs.LettingGo.Counts.{inode_uses, member_count, mount_uses, mounts_showing, times}
-pub use Rattle.vt_laws_mounts.specs.LettingGo.Ends.{is_in, mount_count, without_namespace}
+pub use Rattle.vt_laws_mounts.specs.LettingGo.Ends.{without_namespace}
+pub use Rattle.vt_laws_mounts.specs.Mounts.Ending.{is_in, mount_count}
 pub use Rattle.vt_laws_mounts.specs.LettingGo.FileChanges.{IsMade, IsMoved, MayChange, inodes_lost, names_lost}
 pub use Rattle.vt_laws_mounts.specs.LettingGo.InUse.{AllInUse, FilesystemsInUse, GroupsInUse, HasTrees, InodesInUse, IsListedTree, MountsInUse, UppersArePlain, has_upper_in, is_inode_used}
 pub use Rattle.vt_laws_mounts.specs.LettingGo.Leaving.{MountsStand, comes_nowhere, is_location_among, with_sweeps, with_tasks}

@@ -1,6 +1,6 @@
 -- What a granted call of the machine leaves.
 use Rattle.std.proofs.Common.{arith, ◌≡◌, refl, sym, ap, ◌∙◌, ℕ, nat_eq, true, false, not, List, [], ◌∷◌, ◌||◌, Option, Some, None, Result, Ok, Err, find, is_ok, map, ok_or, option_map}
-use Rattle.vt_spec.proofs.Common.{Answer, Call, Fresh, IsWorld, Judgement, Outcome, Permit, Serves, Task, TaskName, World, after, answer-finished_by, apply, common_steps, denial, filesystems_changed, filesystems_changed_by, finished, judge_in, looks_of, numbers_raised, only_looks, overfills, policy, raised_task, same_name, settled, task_called}
+use Rattle.vt_spec.proofs.Common.{Answer, Call, Fresh, IsWorld, Judgement, Outcome, Permit, Serves, Task, TaskName, World, after, answer-finished_unless, apply, common_steps, denial, filesystems_changed, filesystems_changed_by, finished, judge_in, looks_of, numbers_raised, only_looks, overfills, policy, raised_task, same_name, settled, task_called}
 use Rattle.vt_laws_later_calls.proofs.Common.{Deny, IsGranted, IsPlain, S2, mounts_overlay, names_few_groups, policy_judges_then_applies}
 use Rattle.vt_laws_rules.proofs.given.Ways.{calls_are_granted}
 
@@ -42,7 +42,7 @@ module _ (world : World ℕ) (fresh : Fresh ℕ) (name : TaskName) (call : Call)
   same_answer : (task : Task ℕ) (judgement : Judgement ℕ) → (done_by task judgement).answer ≡ Ok answer
       → (spent task judgement).answer ≡ Ok answer
   same_answer task judgement e =
-      sym (answer-finished_by (only_looks call || not (is_ok (spent task judgement).answer)) world name
+      sym (answer-finished_unless (only_looks call || not (is_ok (spent task judgement).answer)) world name
       (filesystems_changed_by nat_eq world judgement) (spent task judgement)) ∙ e
 
   of_judgement : (task : Task ℕ) → task_called world name ≡ Some task

@@ -1,6 +1,6 @@
 -- How many mounts namespaces have once a tree is attached.
 use Rattle.std.proofs.Common.{◌≡◌, ℕ, Bool, true, false, cond, ◌+◌, ◌*◌, ◌≤◌, ◌++◌, ◌||◌, List, [], ◌∷◌, map, filter, length, nat_eq, Option, None, Some, flat_map, suc, refl, sym, ap, ◌∙◌, arith, inl, inr, append_assoc, eq-eqb, find, unwrap_or, eqb-true, length-append}
-use Rattle.vt_spec.proofs.Common.{Among, Copies, Graft, Location, Mount, World, among-from_map, among-map, attached_by, common_steps, copies_at, copy_at, filter-append, folded, graft_of, group_of, holds_of, is_among, is_among_numbers, length-map, list_any, map_alike, mount_at, mount_in, no_mount, none_among, or_parts, parts_of, pushed_up, receivers_of, takes_part, twig_of, with_mount}
+use Rattle.vt_spec.proofs.Common.{Among, Copies, Graft, Location, Mount, World, among-from_map, among-map, attached_by, common_steps, copies_at, copy_at, filter-append, folded, graft_of, group_of, holds_of, is_among, is_among_numbers, length-map, list_any, map_alike, mount_at, mount_in, no_mount, none_among, or_parts, parts_of, moved_onto_copy, receivers_of, takes_part, twig_of, with_mount}
 use Rattle.vt_laws_mounts.specs.Mounts.Attaching.{numbers_of, OneNumberAMount}
 use Rattle.vt_laws_mounts.proofs.mounts.MountsFound.{number-mount_in}
 use Rattle.vt_laws_mounts.proofs.mounts.MountsReplaced.{found-with_mount_other, found_itself, numbers-with_mount, one_number_by_numbers}
@@ -194,12 +194,12 @@ module _ (world : World ℕ) (place : Location ℕ) where
     graft = graft_of nat_eq world new place moves tree
 
     -- a mount that is pushed up stays in its namespace
-    pushed_stays : (mount : Mount ℕ) → (pushed_up nat_eq world new graft parts mount).namespace ≡ mount.namespace
+    pushed_stays : (mount : Mount ℕ) → (moved_onto_copy nat_eq world new graft parts mount).namespace ≡ mount.namespace
     pushed_stays mount = grind (arith, common_steps)
 
     -- so as many mounts are in it
     pushed_counted : (list : List (Mount ℕ)) (namespace : ℕ)
-        → count_in (map (pushed_up nat_eq world new graft parts) list) namespace ≡ count_in list namespace
+        → count_in (map (moved_onto_copy nat_eq world new graft parts) list) namespace ≡ count_in list namespace
     pushed_counted list namespace =
         count-map _ _ pushed_stays list _ ∙ ap (λ all. count_in all namespace) (map_same_mounts list)
 
@@ -227,11 +227,11 @@ module _ (world : World ℕ) (place : Location ℕ) where
     pub added_counted : (namespace : ℕ) → count_in added.mounts namespace
         ≡ count_in world.mounts namespace + count_in parts namespace * length tree
     added_counted namespace = ap (λ list. count_in list namespace)
-        (append_assoc (map (pushed_up nat_eq world new (graft new false tree) parts) world.mounts)
+        (append_assoc (map (moved_onto_copy nat_eq world new (graft new false tree) parts) world.mounts)
         (copies_at nat_eq world new (graft new false tree) parts (mount_at nat_eq world place))
         (flat_map (copies_at nat_eq world new (graft new false tree) parts)
         (filter (takes_part nat_eq world place) (receivers_of nat_eq world (mount_at nat_eq world place)))))
-        ∙ count-append (map (pushed_up nat_eq world new (graft new false tree) parts) world.mounts)
+        ∙ count-append (map (moved_onto_copy nat_eq world new (graft new false tree) parts) world.mounts)
         (flat_map (copies_at nat_eq world new (graft new false tree) parts) parts) namespace
         ∙ (λ i. pushed_counted new false tree world.mounts namespace i + rest_counted new false tree namespace parts i)
 
@@ -277,11 +277,11 @@ module _ (world : World ℕ) (place : Location ℕ) where
         ∙ put_nowhere world.mounts (there_now mount)
         (ap (λ n. list_any (λ (other : Mount ℕ). nat_eq n other.number) world.mounts) (keeps_number mount)
         ∙ none_has world.mounts missing) in
-        let all = count-append (map (pushed_up nat_eq world new (graft new true tree) parts)
+        let all = count-append (map (moved_onto_copy nat_eq world new (graft new true tree) parts)
         (folded (with_mount nat_eq) world.mounts
         (copies_at nat_eq world new (graft new true tree) parts (mount_at nat_eq world place))) ++ [])
         (flat_map (copies_at nat_eq world new (graft new true tree) parts) others) namespace in
-        let front = count-append (map (pushed_up nat_eq world new (graft new true tree) parts)
+        let front = count-append (map (moved_onto_copy nat_eq world new (graft new true tree) parts)
         (folded (with_mount nat_eq) world.mounts
         (copies_at nat_eq world new (graft new true tree) parts (mount_at nat_eq world place)))) [] namespace in
         let pushed = pushed_counted new true tree (folded (with_mount nat_eq) world.mounts
@@ -305,11 +305,11 @@ module _ (world : World ℕ) (place : Location ℕ) where
       pub moved_all : (namespace : ℕ) → count_in moved.mounts namespace + count_in tree namespace
           ≡ count_in world.mounts namespace + count_in parts namespace * length tree
       moved_all namespace =
-          let all = count-append (map (pushed_up nat_eq world new (graft new true tree) parts)
+          let all = count-append (map (moved_onto_copy nat_eq world new (graft new true tree) parts)
           (folded (with_mount nat_eq) world.mounts
           (copies_at nat_eq world new (graft new true tree) parts (mount_at nat_eq world place))) ++ [])
           (flat_map (copies_at nat_eq world new (graft new true tree) parts) others) namespace in
-          let front = count-append (map (pushed_up nat_eq world new (graft new true tree) parts)
+          let front = count-append (map (moved_onto_copy nat_eq world new (graft new true tree) parts)
           (folded (with_mount nat_eq) world.mounts
           (copies_at nat_eq world new (graft new true tree) parts (mount_at nat_eq world place)))) [] namespace in
           let pushed = pushed_counted new true tree (folded (with_mount nat_eq) world.mounts

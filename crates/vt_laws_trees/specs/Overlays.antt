@@ -4,3 +4,4 @@ pub mod WholeChanges
 pub mod WholeStays
 pub mod MergedTrees
 pub mod TreesSeen
+pub mod InOrder

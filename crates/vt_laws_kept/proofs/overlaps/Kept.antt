@@ -1,6 +1,6 @@
 -- What counts as under a layer lies there, or is kept.
 use Rattle.std.proofs.Common.{◌≡◌, refl, sym, ap, subst, ◌∙◌, true≢false, ◌⊎◌, ⊎_elim, inl, inr, ℕ, zero, suc, nat_eq, eqb-true, eq-eqb, Bool, true, false, cond, not, ◌||◌, ◌&&◌, List, [], ◌∷◌, ◌++◌, map, filter_map, Option, Some, None, option_map}
-use Rattle.vt_spec.proofs.Common.{Among, FileTree, Filesystem, IsTree, IsWorld, Layer, Overlay, Shown, Upper, World, among-filter, among-filter_map, among-flat_map, among-from_filter, among-from_filter_map, among-from_flat_map, and_from, and_true_left, and_true_right, any_among, any_from_among, at_path, counts_in_layer, entry_from, filesystem_numbered, holds_of, is_among, is_directory_under, is_file_under, is_locked, is_object_of, is_overlay, is_real_upper, layers_of, led, led-append, lies_in_layer, lies_or_counts_under, list_any, live_layers, named_in, none_is_some, number_at_path, of_overlay, OpenLayer, open_layer, or_cases, or_left, or_right, overlay_or, overlays, real_object, same_Some, same_truth, shown, targets_in, upper_object, upper_real}
+use Rattle.vt_spec.proofs.Common.{Among, FileTree, Filesystem, IsTree, IsWorld, Layer, Overlay, Shown, Upper, World, among-filter, among-filter_map, among-flat_map, among-from_filter, among-from_filter_map, among-from_flat_map, and_from, and_true_left, and_true_right, any_among, any_from_among, at_path, counts_as_in_layer, entry_from, filesystem_numbered, holds_of, is_among, is_directory_under, is_file_under, is_locked, is_object_of, is_overlay, is_real_upper, layers_of, led, led-append, lies_in_layer, lies_or_counts_under, list_any, live_layers, named_in, none_is_some, number_at_path, of_overlay, OpenLayer, open_layer, or_cases, or_left, or_right, overlay_or, overlays, real_object, same_Some, same_truth, shown, targets_in, upper_object, upper_real}
 use Rattle.vt_spec.proofs.Lists.{among_numbers, is_among_numbers}
 use Rattle.vt_laws_trees.specs.Layers.Layers.Shown.{IsShown}
 use Rattle.vt_laws_trees.proofs.layers.directories.Lower.{led_below}
@@ -183,7 +183,7 @@ module _ (world : World ℕ) (conditions : IsWorld nat_eq world) (filesystem obj
 
     -- what counts under the layer by an overlay lies there, or is kept
     lies_or_kept : (merged : Filesystem ℕ) → Among merged (overlays world)
-        → counts_in_layer nat_eq world filesystem object layer merged ≡ true
+        → counts_as_in_layer nat_eq world filesystem object layer merged ≡ true
         → (lies_in_layer nat_eq world filesystem object layer ≡ true)
         ⊎ (keeps_in_layer world filesystem object layer merged ≡ true)
     lies_or_kept merged m e =
@@ -220,7 +220,7 @@ module _ (world : World ℕ) (conditions : IsWorld nat_eq world) (filesystem obj
 
     -- and what is kept so counts
     counts_where_kept : (merged : Filesystem ℕ) → keeps_in_layer world filesystem object layer merged ≡ true
-        → counts_in_layer nat_eq world filesystem object layer merged ≡ true
+        → counts_as_in_layer nat_eq world filesystem object layer merged ≡ true
     counts_where_kept merged e =
         let keeps = keeps_parts filesystem object merged (and_true_right (stands_in world layer merged) _ e) in
         let stands = sym (stands_where merged keeps.overlay keeps.is keeps.upper keeps.has)
@@ -242,7 +242,7 @@ module _ (world : World ℕ) (conditions : IsWorld nat_eq world) (filesystem obj
     lies = lies_in_layer nat_eq world filesystem object layer
 
     abbrev some_counts : Bool
-    some_counts = list_any (counts_in_layer nat_eq world filesystem object layer) (overlays world)
+    some_counts = list_any (counts_as_in_layer nat_eq world filesystem object layer) (overlays world)
 
     abbrev some_keeps : Bool
     some_keeps = list_any (keeps_in_layer world filesystem object layer) (overlays world)
@@ -252,7 +252,7 @@ module _ (world : World ℕ) (conditions : IsWorld nat_eq world) (filesystem obj
       where
         forth : (lies || some_counts) ≡ true → (lies || some_keeps) ≡ true
         forth e = ⊎_elim (λ here. or_left lies some_keeps here) (λ counts.
-            let found = any_among (counts_in_layer nat_eq world filesystem object layer) (overlays world) counts in
+            let found = any_among (counts_as_in_layer nat_eq world filesystem object layer) (overlays world) counts in
             ⊎_elim (λ here. or_left lies some_keeps here) (λ kept. or_right lies some_keeps
             (any_from_among (keeps_in_layer world filesystem object layer) (overlays world) found.0 found.1 kept))
             (lies_or_kept found.0 found.1 found.2)) (or_cases lies some_counts e)
@@ -260,7 +260,7 @@ module _ (world : World ℕ) (conditions : IsWorld nat_eq world) (filesystem obj
         back : (lies || some_keeps) ≡ true → (lies || some_counts) ≡ true
         back e = ⊎_elim (λ here. or_left lies some_counts here) (λ kept.
             let found = any_among (keeps_in_layer world filesystem object layer) (overlays world) kept in
-            or_right lies some_counts (any_from_among (counts_in_layer nat_eq world filesystem object layer)
+            or_right lies some_counts (any_from_among (counts_as_in_layer nat_eq world filesystem object layer)
             (overlays world) found.0 found.1 (counts_where_kept found.0 found.2))) (or_cases lies some_keeps e)
 
   -- an object that an overlay keeps is locked

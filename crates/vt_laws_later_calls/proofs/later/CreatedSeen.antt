@@ -1,6 +1,6 @@
 -- A name that open made exists.
 use Rattle.std.proofs.Common.{arith, ◌≡◌, refl, sym, ap, subst, ◌∙◌, inl, inr, ◌⊎◌, ℕ, nat_eq, nat_le, length, eqb-true, true, false, List, [], ◌∷◌, Option, Some, None, is_some, option_map, Result, Ok, Err, find, reverse}
-use Rattle.vt_spec.proofs.Common.{Access, Answer, Call, Change, Credentials, Exclusive, FileTree, Fresh, IsWorld, Judgement, Location, Looks, Make, Named, Node, NoneFails, OpenFile, Opened, Place, Rules, Stop, Task, TaskName, World, after, and_then, answer-finished_by, apply, changed, common_steps, contains_from_among, denial, directory_used, ends_in_slash, entries_in, entry_location, entry_named, files_at, filesystem_numbered, final_word, found_among, is_special, judging, last_word, looks_of, most_descriptors, mount_at, name_of, new_file, new_walk, node_allows, node_at, odds, passed, place_walk, placed, policy, raised_task, same_Some, same_name, search_rules, settled, steps_at, stopped_by, task_called, tasks-with_change, then_walk, unless, walk_start, walk_unless, with_descriptor, with_new_inode, with_task, words, words_walked}
+use Rattle.vt_spec.proofs.Common.{Access, Answer, Call, Change, Credentials, Exclusive, FileTree, Fresh, IsWorld, Judgement, Location, Looks, Make, Named, Node, NoneFails, OpenFile, Opened, Place, Rules, Stop, Task, TaskName, World, after, and_then, answer-finished_unless, apply, changed, common_steps, contains_from_among, denial, directory_used, ends_in_slash, entries_in, entry_location, entry_named, files_at, filesystem_numbered, final_word, found_among, is_special, judging, last_word, looks_of, most_descriptors, mount_at, name_of, new_file, new_walk, node_allows, node_at, odds, passed, place_walk, placed, policy, raised_task, same_Some, same_name, search_rules, settled, steps_at, stopped_by, task_called, tasks-with_change, then_walk, unless, walk_start, walk_unless, with_descriptor, with_new_inode, with_task, words, words_walked}
 use Rattle.vt_laws_later_calls.proofs.Common.{Deny, E1, IsFileTree, IsListedTree, IsPlain, MayBeMade, SeesTo, W4, change_of, changes_keep_numbers, changes_keep_trees, followed, given_changes_are_proper, mounts-with_change, name_found, new_name_rules, opened_new_keeps_all, plain_numbered, prefix_walked, tree_here, unused_inode, worlds_are_settled}
 use Rattle.vt_laws_later_calls.specs.LaterPaths.{ExclusiveTwice}
 use Rattle.vt_laws_later_calls.proofs.AfterChange.{sees_to, later_files, later_is, listed, spent}
@@ -163,7 +163,7 @@ exclusive_refused : (world : World ℕ) (fresh : Fresh ℕ) (name : TaskName) (t
     → (policy nat_eq fresh world name (OpenFile path access (Exclusive mode))).answer ≡ Err (denial E1)
 unfolding judging
 exclusive_refused world fresh name task path access mode place called room walk named no_slash there =
-    grind (arith, common_steps, there, answer-finished_by)
+    grind (arith, common_steps, there, answer-finished_unless)
 
 module _ {path : List ℕ} {world : World ℕ} {fresh : Fresh ℕ} {name : TaskName} {access : Access} {mode number : ℕ}
     (it : HasSucceeded world fresh name (OpenFile path access (Exclusive mode)) (Opened number))

@@ -1,6 +1,6 @@
 -- What a new mount leaves at a destination that is not shared: one mount more, and the filesystem that it shows.
 use Rattle.std.proofs.Common.{arith, ◌≡◌, refl, ap, subst, ◌∙◌, ℕ, nat_eq, eq-eqb, true, false, List, [], ◌∷◌, ◌++◌, None, Some, filter, flat_map, is_some, map, append-nil, if◌then◌else◌}
-use Rattle.vt_spec.proofs.Common.{Copies, Filesystem, Fresh, Graft, Location, Mount, MountFlags, Private, Serves, Task, ToMountPlain, World, among_numbers, apply, common_steps, copies_at, copies_from, copy_mount_point, graft_of, group_of, mount_at, mount_numbered, new_mount, number-mount_in, odds, plain_filesystem, pushed_up, receivers_of, takes_part, twig_of, type_at_part, with_new_filesystem}
+use Rattle.vt_spec.proofs.Common.{Copies, Filesystem, Fresh, Graft, Location, Mount, MountFlags, Private, Serves, Task, ToMountPlain, World, among_numbers, apply, common_steps, copies_at, copies_from, copy_mount_point, graft_of, group_of, mount_at, mount_numbered, new_mount, number-mount_in, odds, plain_filesystem, moved_onto_copy, receivers_of, takes_part, twig_of, type_at_part, with_new_filesystem}
 use Rattle.vt_laws_later_calls.proofs.Common.{found_is_there, is_mount, is_one_of, number_is_old}
 
 -- a mount that is in a namespace is one of the world's
@@ -48,7 +48,7 @@ module _ (fresh : Fresh ℕ) (world : World ℕ) (place : Location ℕ) (flags :
       let parts = destination ∷ others in
       let new = copies_from nat_eq (odds fresh) parts (origin ∷ []) in
       let graft = graft_of nat_eq larger new place false (origin ∷ []) in
-      map (pushed_up nat_eq larger new graft parts) world.mounts ++ copies_at nat_eq larger new graft parts destination
+      map (moved_onto_copy nat_eq larger new graft parts) world.mounts ++ copies_at nat_eq larger new graft parts destination
       ++ flat_map (copies_at nat_eq larger new graft parts) others
 
   -- the mounts at the destination, whatever the parts
@@ -56,7 +56,7 @@ module _ (fresh : Fresh ℕ) (world : World ℕ) (place : Location ℕ) (flags :
   mounts_with_copies parts =
       let new = copies_from nat_eq (odds fresh) parts (origin ∷ []) in
       let graft = graft_of nat_eq larger new place false (origin ∷ []) in
-      map (pushed_up nat_eq larger new graft parts) world.mounts ++ copies_at nat_eq larger new graft parts destination
+      map (moved_onto_copy nat_eq larger new graft parts) world.mounts ++ copies_at nat_eq larger new graft parts destination
 
   -- the attachment, where the destination is the only part
   abbrev alone_graft : Graft ℕ
@@ -70,7 +70,7 @@ module _ (fresh : Fresh ℕ) (world : World ℕ) (place : Location ℕ) (flags :
 
   -- without receivers no mount is pushed up
   nothing_is_pushed : (list : List (Mount ℕ))
-      → map (pushed_up nat_eq larger (copies_from nat_eq (odds fresh) (destination ∷ []) (origin ∷ [])) alone_graft
+      → map (moved_onto_copy nat_eq larger (copies_from nat_eq (odds fresh) (destination ∷ []) (origin ∷ [])) alone_graft
       (destination ∷ [])) list ≡ list
   nothing_is_pushed [] = refl
   nothing_is_pushed (mount ∷ list) = cc (nothing_is_pushed list)

@@ -1,6 +1,6 @@
 -- What is left of a world after an unshare: the mounts of a namespace that ends have copies, so that nothing else goes.
 use Rattle.std.proofs.Common.{arith, ◌≡◌, refl, sym, ap, subst, ◌∙◌, ◌⊎◌, inl, inr, ⊎_elim, ℕ, nat_eq, eqb-true, eq-eqb, Bool, true, false, cond, not, ◌||◌, ◌&&◌, List, [], ◌∷◌, ◌++◌, filter, map, flat_map, Option, Some, None, is_some, option_map, true≢false, filter_map}
-use Rattle.vt_spec.proofs.Common.{Filesystem, Fresh, HasLivingGroups, IsWorld, Lives, Location, Mount, MountInvariants, Namespace, Serves, Task, World, after_going, all_locations, and_parts, any_pair, bytes_decides, cases_Bool, common_steps, copied_mount, detached, evens, false_from_ne_true, filesystem_lives, has_layer_on, has_master, has_members, has_no_master, has_tasks, holds_of, is_among, is_among_left, is_among_right, is_copied, is_going, is_in_ended, is_located, is_lost_group, is_member_of, is_mounted, is_overlay, layers_in, list_all, list_any, list_any-append, located_in, location_on_copy, locations_of, lost_a_group, mount_at, mount_in, mount_lives, mount_numbered, mount_point_left, mounts_of, moved_location, named_in, namespaces_ended, none_among, number-mount_in, numbers_by, objects_of_overlay, odds, or_cases, or_parts, pair-filter, regrouped_by, replaced_if_called, root_of, same_name, same_task_name, settled, source_of, task_called, then_some, unshared, unshared_task, with_mounts, without_dead_groups, without_dead_in, without_dead_inodes, without_dead_mounts}
+use Rattle.vt_spec.proofs.Common.{Filesystem, Fresh, HasLivingGroups, IsWorld, Lives, Location, Mount, MountInvariants, Namespace, Serves, Task, World, after_going, all_locations, and_parts, any_pair, bytes_decides, cases_Bool, common_steps, copied_mount, detached, evens, false_from_ne_true, filesystem_lives, has_layer_on, has_master, has_members, has_no_master, has_tasks, holds_of, is_among, is_among_left, is_among_right, is_copied, is_going, is_in_ended, is_located, is_lost_group, is_member_of, is_mounted, is_overlay, layers_in, list_all, list_any, list_any-append, located_in, location_on_copy, locations_of, lost_a_group, mount_at, mount_in, mount_lives, mount_numbered, inherited_mount_point, mounts_of, moved_location, named_in, namespaces_ended, none_among, number-mount_in, numbers_by, objects_of_overlay, odds, or_cases, or_parts, pair-filter, regrouped_by, replaced_if_called, root_of, same_name, same_task_name, settled, source_of, task_called, then_some, unshared, unshared_task, with_mounts, without_dead_groups, without_dead_in, without_dead_inodes, without_dead_mounts}
 use Rattle.vt_laws_later_calls.proofs.Common.{Among, AreNamespaces, FilesystemsInUse, InodesInUse, OneNumberAMount, Parent, all_from_among, all_in_use, among-append, among-append_left, among-append_right, among-filter, among-filter_map, among-flat_map, among-from_filter, among-from_filter_map, among-from_flat_map, among-from_map, among-map, among_from_all, among_from_list_all, among_numbers, any_among, any_from_among, are_namespaces, called_there, ended_mounts, filesystems_stay, found_itself, found_there, inodes_stay, is_among_numbers, is_in, is_inode_used, list_all_from_among, locations_of_worlds_stand, mounts_of_worlds_stand, none_from_among, numbers-map, one_number_by_numbers, or_left, or_right, parent_of, placed_inside, unshare_keeps_mounts, used_at}
 use Rattle.vt_laws_mounts.proofs.letting_go.mounting.MountingLosers.{places_of, places_stand}
 use Rattle.vt_laws_mounts.proofs.letting_go.mounting.MountingTaken
@@ -165,7 +165,7 @@ module _ {world : World ℕ} {fresh : Fresh ℕ} {task : Task ℕ} (is : IsWorld
 
   pub goes : (mount : Mount ℕ) → is_going nat_eq ended mount.number ≡ true → change mount ≡ detached mount
   goes mount e = ap (λ b. cond b (detached mount) (record mount {
-    mount_point = option_map (mount_point_left nat_eq base ended) mount.mount_point;
+    mount_point = option_map (inherited_mount_point nat_eq base ended) mount.mount_point;
   })) e
 
   -- each group keeps a member

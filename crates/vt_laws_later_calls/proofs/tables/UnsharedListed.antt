@@ -1,6 +1,6 @@
 -- What the list of mounts tells after an unshare.
 use Rattle.std.proofs.Common.{arith, ◌≡◌, refl, sym, ap, subst, ◌∙◌, inr, ⊎_elim, ℕ, nat_eq, eq-eqb, eqb-true, Bool, true, false, cond, List, [], ◌∷◌, ◌++◌, Option, Some, None, Ok, Err, Result, filter, find, flat_map, map, option_and_then, option_map, true≢false, unwrap_or}
-use Rattle.vt_spec.proofs.Common.{Answer, Done, Filesystem, Fresh, IsWorld, ListMounts, Location, Looks, Mount, MountInvariants, MountList, Namespace, Permit, Private, Propagation, Serves, Shared, Slave, Spot, Task, TaskName, ToUnshare, Unbindable, Unshare, World, bytes_decides, cases_Bool, common_steps, denial, evens, false_from_ne_true, filesystems_seen, groups_in_type, groups_seen, groups_shown, is_among_numbers, is_going, is_listed, is_member_of, is_overlay, judging, map_alike, map_same, mount_line, mount_lines, mount_lives, mount_numbered, mount_point_left, mount_point_spot, mounts_of, no_filesystem, number_among, numbers_in_use, numbers_raised, path_down, policy, raised, raised_if_changed, raised_task, replaced_if_called, same_Some, same_name, same_task_name, spot_of, task_called, type_line, used_by_filesystem, used_by_mount, without_dead_groups}
+use Rattle.vt_spec.proofs.Common.{Answer, Done, Filesystem, Fresh, IsWorld, ListMounts, Location, Looks, Mount, MountInvariants, MountList, Namespace, Permit, Private, Propagation, Serves, Shared, Slave, Spot, Task, TaskName, ToUnshare, Unbindable, Unshare, World, bytes_decides, cases_Bool, common_steps, denial, evens, false_from_ne_true, filesystems_seen, groups_in_type, groups_seen, groups_shown, is_among_numbers, is_going, is_listed, is_member_of, is_overlay, judging, map_alike, map_same, mount_line, mount_lines, mount_lives, mount_numbered, inherited_mount_point, mount_point_spot, mounts_of, no_filesystem, number_among, numbers_in_use, numbers_raised, path_down, policy, raised, raised_if_changed, raised_task, replaced_if_called, same_Some, same_name, same_task_name, spot_of, task_called, type_line, used_by_filesystem, used_by_mount, without_dead_groups}
 use Rattle.vt_laws_later_calls.proofs.Common.{Among, Deny, IsGranted, IsListedIn, Parent, S2, UnshareListsOthersTheSame, UnshareListsTheSame, among-append_left, among-append_right, among-from_filter, among-map, any_from_among, called_there, filter_here, filter_skip, flat_map_alike, found_itself, is_in, is_mount, is_one_of, listed_in, name_found, number_of, parent_of, shared_member, unshares}
 use Rattle.vt_laws_mounts.proofs.letting_go.mounting.MountingTaken
 use Rattle.vt_laws_mounts.proofs.mounts.MountPointSpots.{numbered_found}
@@ -183,7 +183,7 @@ module _ {world : World ℕ} {fresh : Fresh ℕ} {task : Task ℕ} (is : IsWorld
         isnt = stays mount m e
 
         points : (o : Option (Location ℕ)) → mount.mount_point ≡ o
-            → option_map (mount_point_left nat_eq base ended) mount.mount_point ≡ mount.mount_point
+            → option_map (inherited_mount_point nat_eq base ended) mount.mount_point ≡ mount.mount_point
         points None f = cc
         points (Some place) f =
             let on = below mount m place f in

@@ -1,6 +1,5 @@
 -- How many mounts a call makes, moves, or gives a type: mount(2), ENOSPC, and unshare(2).
 use Rattle.std.specs.Prelude.{Ok, Some, length, nat_eq, ⊤, ℕ, ◌*◌, ◌≡◌, ◌≤◌}
-use Rattle.vt_laws_mounts.specs.LettingGo.Ends.{mount_count}
 use Rattle.vt_spec.specs.Language.Calls.{Call}
 use Rattle.vt_spec.specs.Language.Limits.{most_mounts}
 use Rattle.vt_spec.specs.Lists.{Fresh}
@@ -11,6 +10,7 @@ use Rattle.vt_spec.specs.Machine.Permits.{Permit}
 use Rattle.vt_spec.specs.Machine.Permits.Permit.{ToBind, ToMountOverlay, ToMountPlain, ToMove, ToSetType, ToUnshare}
 use Rattle.vt_spec.specs.Machine.Types.{named_mounts}
 use Rattle.vt_spec.specs.Machine.World.{Task, World, task_called}
+use Rattle.vt_laws_mounts.specs.Mounts.Ending.{mount_count}
 use Rattle.vt_laws_later_calls.specs.Limits.Room.{tree_of}
 
 -- no more than 4,096 for each namespace

@@ -1,7 +1,6 @@
 -- Which namespaces have room for what is attached: a namespace holds at most 4,096 mounts; ENOSPC of mount(2).
 use Rattle.std.specs.Prelude.{Bool, List, Ok, Some, false, filter, length, nat_eq, nat_lt, not, true, ℕ, ◌*◌, ◌+◌, ◌-◌, ◌≡◌}
 use Rattle.std.specs.List.{list_all, list_any}
-use Rattle.vt_laws_mounts.specs.LettingGo.Ends.{is_in, mount_count}
 use Rattle.vt_laws_mounts.specs.Mounts.Attaching.{is_mount}
 use Rattle.vt_spec.specs.declared.errors.Rule.TheVariants.{M9}
 use Rattle.vt_spec.specs.Errors.{Rules, denial}
@@ -23,6 +22,7 @@ use Rattle.vt_spec.specs.Machine.Rules.Conditions.{lacks}
 use Rattle.vt_spec.specs.Machine.Walking.{Here}
 use Rattle.vt_spec.specs.Machine.World.{Overlay, Task, World, mount_numbered, task_called}
 use Rattle.vt_spec.specs.Rights.{cap_sys_admin}
+use Rattle.vt_laws_mounts.specs.Mounts.Ending.{is_in, mount_count}
 
 -- how many mounts of a list are in a namespace
 abbrev pub how_many_in : ℕ → List (Mount ℕ) → ℕ

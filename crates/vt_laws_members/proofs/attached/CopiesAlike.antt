@@ -1,6 +1,6 @@
 -- Copies that are attached at a mount of theirs, at its receivers and what they push up, are the same in the part.
 use Rattle.std.proofs.Common.{arith, ◌≡◌, refl, sym, ap, subst, ◌∙◌, inl, inr, ⊎_elim, ℕ, nat_eq, Bool, true, false, cond, List, [], ◌∷◌, ◌++◌, Option, Some, None, append-nil, filter, flat_map, is_some, map, not, ◌&&◌, filter_map}
-use Rattle.vt_spec.proofs.Common.{Among, Copies, Filesystem, Graft, Location, Mount, Private, Propagation, Shared, Slave, Task, TaskName, Twig, Unbindable, World, added_mounts, all_groups_made, among-filter, among-from_filter, attached_at, attached_by, common_steps, copies_at, copy_at, copy_type, filesystem_numbered, filter_alike, folded, found_among, graft_of, group_made, group_of, image, is_among, is_destination, is_directory_under, is_member_of, is_own_mount, list_any, map_alike, masters_with, members, mount_at, nearest_image, number-mount_in, part_of, parts_of, pushed_up, receivers_of, rest_of, source_of, takes_part, then_some, twig_master, twig_of, used_filesystems, when, with_moved_mounts}
+use Rattle.vt_spec.proofs.Common.{Among, Copies, Filesystem, Graft, Location, Mount, Private, Propagation, Shared, Slave, Task, TaskName, Twig, Unbindable, World, added_mounts, all_groups_made, among-filter, among-from_filter, attached_at, attached_by, common_steps, copies_at, copy_at, copy_type, filesystem_numbered, filter_alike, folded, found_among, graft_of, group_made, group_of, image, is_among, is_destination, is_directory_under, is_member_of, is_own_mount, list_any, map_alike, masters_with, members, mount_at, image_of_nearest_group, number-mount_in, part_of, parts_of, moved_onto_copy, receivers_of, rest_of, source_of, takes_part, then_some, twig_master, twig_of, used_filesystems, when, with_moved_mounts}
 use Rattle.vt_laws_members.proofs.detached.lazily.GoingAlike.{receivers_alike, receivers_own}
 use Rattle.vt_laws_members.proofs.Common.{IsSealed, filter_map_same, flat_map_alike, found, is_own, numbered, same_up, source_from_group}
 use Rattle.vt_laws_members.proofs.judging.Common.{IsTheirs, no_events, own_theirs, same_mount, theirs_used}
@@ -108,7 +108,7 @@ module _ {world : World ℕ} {names : List TaskName} (attaching : AttachesTheirs
     copies = copies_at nat_eq base new tree parts
 
     abbrev pub push : Mount ℕ → Mount ℕ
-    push = pushed_up nat_eq base new tree parts
+    push = moved_onto_copy nat_eq base new tree parts
 
     abbrev pub made : List (ℕ × Option ℕ)
     made = all_groups_made nat_eq base new tree parts
@@ -120,8 +120,8 @@ module _ {world : World ℕ} {names : List TaskName} (attaching : AttachesTheirs
 
     -- images up the masters
     nearest_alike : (twig : Twig ℕ) (g : ℕ) → Heard g
-        → nearest_image nat_eq base_part new parts destination twig (Some g)
-        ≡ nearest_image nat_eq base new parts destination twig (Some g)
+        → image_of_nearest_group nat_eq base_part new parts destination twig (Some g)
+        ≡ image_of_nearest_group nat_eq base new parts destination twig (Some g)
     nearest_alike twig g heard =
         cc (same_up world names attaching.is.mounts (apart attaching.sealing).events g heard.0 heard.1)
 
@@ -144,7 +144,7 @@ module _ {world : World ℕ} {names : List TaskName} (attaching : AttachesTheirs
     pub copies_alike : (p : Mount ℕ) → Among p parts → copies_at nat_eq base_part new tree parts p ≡ copies p
     copies_alike p n = map_alike _ (copy_at nat_eq base new tree parts p) tree.twigs (λ twig m. copy_alike p n twig)
 
-    push_alike : (m : Mount ℕ) → pushed_up nat_eq base_part new tree parts m ≡ push m
+    push_alike : (m : Mount ℕ) → moved_onto_copy nat_eq base_part new tree parts m ≡ push m
     push_alike m = grind (arith, common_steps, copies_alike, found_among)
 
     -- groups that copies form
@@ -153,19 +153,19 @@ module _ {world : World ℕ} {names : List TaskName} (attaching : AttachesTheirs
     made_alike p n twig = ap (λ d. cond (is_destination nat_eq tree p.number) (twig_master twig)
         (then_some (group_of p.propagation) (λ group. when (not (is_member_of nat_eq group d)) (
           image nat_eq new d twig group,
-          nearest_image nat_eq base_part new parts d twig (part.master group),
+          image_of_nearest_group nat_eq base_part new parts d twig (part.master group),
         )))) same_destination
         ∙ ap (cond (is_destination nat_eq tree p.number) (twig_master twig)) (by (group_of p.propagation) refl)
       where
         made_by : (World ℕ) → (ℕ → Option ℕ) → ℕ → Option (ℕ × Option ℕ)
         made_by w up group = when (not (is_member_of nat_eq group destination)) (
           image nat_eq new destination twig group,
-          nearest_image nat_eq w new parts destination twig (up group),
+          image_of_nearest_group nat_eq w new parts destination twig (up group),
         )
 
         above : (g : ℕ) → Heard g → (o : Option ℕ) → world.master g ≡ o
-            → nearest_image nat_eq base_part new parts destination twig o
-            ≡ nearest_image nat_eq base new parts destination twig o
+            → image_of_nearest_group nat_eq base_part new parts destination twig o
+            ≡ image_of_nearest_group nat_eq base new parts destination twig o
         above g heard None e = refl
         above g heard (Some up) e = nearest_alike twig up
             (above_heard attaching.sealing up g e heard)
@@ -203,7 +203,7 @@ module _ {world : World ℕ} {names : List TaskName} (attaching : AttachesTheirs
       moves = moves;
     }) (parts_of nat_eq base_part attaching.place)) same_destination
         ∙ ap (attached_at nat_eq base_part new tree) parts_alike ∙ ap (λ (d : Mount ℕ). record base_part {
-          mounts = mounts_by (pushed_up nat_eq base_part new tree parts) (copies_at nat_eq base_part new tree parts d)
+          mounts = mounts_by (moved_onto_copy nat_eq base_part new tree parts) (copies_at nat_eq base_part new tree parts d)
               (flat_map (copies_at nat_eq base_part new tree parts) (rest_of parts));
           master = folded (masters_with nat_eq) part.master (all_groups_made nat_eq base_part new tree parts);
         }) same_destination ∙ (λ i. record base_part {

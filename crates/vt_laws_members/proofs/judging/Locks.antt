@@ -1,6 +1,6 @@
 -- What is locked in the world is locked in the part, and the other way round.
 use Rattle.std.proofs.Common.{◌≡◌, refl, sym, ap, subst, ◌∙◌, ⊎_elim, ℕ, nat_eq, true, true≢false, List, [], Option, Some, None, find, is_some, ◌||◌, ◌&&◌, eq-eqb, eqb-true, arith, unwrap_or}
-use Rattle.vt_spec.proofs.Common.{Among, FileTree, Filesystem, IsTree, Layer, ListsNumbers, Overlay, TaskName, World, all_named, among-append_left, among-append_right, among-filter, among-filter_map, among-flat_map, among-from_filter, among-from_filter_map, among-from_flat_map, among_from_all, among_from_contains, among_from_list_all, among_numbers, and_from, and_parts, any_among, any_from_among, common_steps, contains_from_among, counts_in_layer, filesystem_numbered, found_among, has_layer_on, holds_of, is_among, is_directory_node, is_locked, is_lower_root, is_object_of, is_overlay, is_real_upper, is_there, is_under, layers_of, lies_in_layer, lies_or_counts_under, list_any, live_layers, named_in, no_filesystem, of_overlay, or_cases, or_left, or_right, overlays, part_of, part_of_filesystem, same_truth, upper_real, used_alone, used_filesystems, wholly_locked}
+use Rattle.vt_spec.proofs.Common.{Among, FileTree, Filesystem, IsTree, Layer, ListsNumbers, Overlay, TaskName, World, all_named, among-append_left, among-append_right, among-filter, among-filter_map, among-flat_map, among-from_filter, among-from_filter_map, among-from_flat_map, among_from_all, among_from_contains, among_from_list_all, among_numbers, and_from, and_parts, any_among, any_from_among, common_steps, contains_from_among, counts_as_in_layer, filesystem_numbered, found_among, has_layer_on, holds_of, is_among, is_directory_node, is_locked, is_lower_root, is_object_of, is_overlay, is_real_upper, is_there, is_under, layers_of, lies_in_layer, lies_or_counts_under, list_any, live_layers, named_in, no_filesystem, of_overlay, or_cases, or_left, or_right, overlays, part_of, part_of_filesystem, same_truth, upper_real, used_alone, used_filesystems, wholly_locked}
 use Rattle.vt_laws_members.proofs.Common.{IsSealed, found, found_filesystem, layer_directory, led_is_there, lower_plain, named_under, overlay_without_others, root_under, shown_how, their_overlays_are_in_the_part, under_led, used_are_free}
 
 -- an overlay with one of its layers in the filesystem
@@ -19,7 +19,7 @@ pub record Counts (world : World ℕ) (number object : ℕ) (layer : Layer ℕ) 
   pub object_of : is_object_of nat_eq number object merged overlay ≡ true
 
 pub counts_how : (world : World ℕ) (number object : ℕ) (layer : Layer ℕ) (merged : Filesystem ℕ)
-    → counts_in_layer nat_eq world number object layer merged ≡ true → Counts world number object layer merged
+    → counts_as_in_layer nat_eq world number object layer merged ≡ true → Counts world number object layer merged
 counts_how world number object layer merged h = grind (arith, common_steps, true≢false, eqb-true, and_parts)
 
 -- What is locked stays so where each overlay with a layer in the filesystem is.
@@ -31,8 +31,8 @@ module _ (a b : World ℕ) (number : ℕ) (same : filesystem_numbered nat_eq b n
   lies_at object layer h = cc (same, h)
 
   counts_at : (object : ℕ) (layer : Layer ℕ) (merged : Filesystem ℕ) → Among merged (overlays a)
-      → counts_in_layer nat_eq a number object layer merged ≡ true
-      → Among merged (overlays b) × (counts_in_layer nat_eq b number object layer merged ≡ true)
+      → counts_as_in_layer nat_eq a number object layer merged ≡ true
+      → Among merged (overlays b) × (counts_as_in_layer nat_eq b number object layer merged ≡ true)
       × (nat_eq number layer.filesystem ≡ true)
   counts_at object layer merged m h =
       grind (arith, common_steps, counts_how, among-append_left, lies_at, has_layer, eq-eqb, and_from, and_parts)
@@ -44,14 +44,14 @@ module _ (a b : World ℕ) (number : ℕ) (same : filesystem_numbered nat_eq b n
     (and_parts (nat_eq number layer.filesystem)
         (is_under nat_eq (filesystem_numbered nat_eq a number).files layer.directory object) lies).0,
   )) (λ counts.
-      let at = any_among (counts_in_layer nat_eq a number object layer) (overlays a) counts in
+      let at = any_among (counts_as_in_layer nat_eq a number object layer) (overlays a) counts in
       let there = counts_at object layer at.0 at.1 at.2 in (
         or_right (lies_in_layer nat_eq b number object layer)
-            (list_any (counts_in_layer nat_eq b number object layer) (overlays b))
-            (any_from_among (counts_in_layer nat_eq b number object layer) (overlays b) at.0 there.0 there.1),
+            (list_any (counts_as_in_layer nat_eq b number object layer) (overlays b))
+            (any_from_among (counts_as_in_layer nat_eq b number object layer) (overlays b) at.0 there.0 there.1),
         there.2,
       )) (or_cases (lies_in_layer nat_eq a number object layer)
-      (list_any (counts_in_layer nat_eq a number object layer) (overlays a)) h)
+      (list_any (counts_as_in_layer nat_eq a number object layer) (overlays a)) h)
 
   pub locked_at : (object : ℕ) → is_locked nat_eq a number object ≡ true → is_locked nat_eq b number object ≡ true
   locked_at object h =
@@ -125,7 +125,7 @@ module _ {world : World ℕ} {names : List TaskName} (sealing : IsSealed world n
       led_is_there _ tree.0 directory way.0 object way.1
 
   counts_there : (number object : ℕ) (layer : Layer ℕ) (merged : Filesystem ℕ) → Among merged (overlays world)
-      → counts_in_layer nat_eq world number object layer merged ≡ true
+      → counts_as_in_layer nat_eq world number object layer merged ≡ true
       → is_some ((files_of number).tree.node object) ≡ true
   counts_there number object layer merged m h =
       let c = counts_how world number object layer merged h in

@@ -1,6 +1,6 @@
 -- Layers of a new overlay overlap others in the part as in the world: overlayfs, "sharing and copying layers".
 use Rattle.std.proofs.Common.{arith, ◌≡◌, refl, sym, ◌∙◌, inl, ⊎_elim, ℕ, nat_eq, true, List, [], Some, ◌&&◌, eqb-true, option_to_list}
-use Rattle.vt_spec.proofs.Common.{Among, Filesystem, Layer, Overlay, TaskName, World, among-append_left, among-flat_map, among-from_filter, among-from_flat_map, among_numbers, any_among, any_from_among, common_steps, counts_in_layer, filesystem_numbered, is_among, is_overlay, layers_of, lies_in_layer, lies_or_counts_under, list_any, live_layers, live_upper_and_work, of_overlay, or_cases, or_left, overlaps_one_of, overlays, part_of, same_truth, upper_and_work, used_alone, used_filesystems, wholly_locked}
+use Rattle.vt_spec.proofs.Common.{Among, Filesystem, Layer, Overlay, TaskName, World, among-append_left, among-flat_map, among-from_filter, among-from_flat_map, among_numbers, any_among, any_from_among, common_steps, counts_as_in_layer, filesystem_numbered, is_among, is_overlay, layers_of, lies_in_layer, lies_or_counts_under, list_any, live_layers, live_upper_and_work, of_overlay, or_cases, or_left, overlaps_one_of, overlays, part_of, same_truth, upper_and_work, used_alone, used_filesystems, wholly_locked}
 use Rattle.vt_laws_members.proofs.Common.{IsSealed, found, used_are_free}
 use Rattle.vt_laws_members.proofs.judging.Anywhere.{not_whole}
 use Rattle.vt_laws_members.proofs.judging.Locks.{alone_in_part, counts_how, has_layer, locked_alike, part_in_world, under_at}
@@ -43,11 +43,11 @@ module _ {world : World ℕ} {names : List TaskName} (sealing : IsSealed world n
       (lies_or_counts_under nat_eq part number object layer) (λ h. how
       (λ alone. (under_at world part number same (alone_in_part sealing number alone) object layer h).0)
       (λ whole. ⊎_elim (λ lies. or_left (lies_in_layer nat_eq part number object layer) _ (cc same))
-      (λ counts. let at = any_among (counts_in_layer nat_eq world number object layer) (overlays world) counts in let c
+      (λ counts. let at = any_among (counts_as_in_layer nat_eq world number object layer) (overlays world) counts in let c
       = counts_how world number object layer at.0 at.2 in absurd (none_written whole at.0 at.1 c.overlay c.is c.upper
       (among-append_left (option_to_list c.overlay.upper) (option_to_list c.overlay.work) c.upper (rw c.has (inl refl)))
       c.inside)) (or_cases (lies_in_layer nat_eq world number object layer)
-      (list_any (counts_in_layer nat_eq world number object layer) (overlays world)) h)))
+      (list_any (counts_as_in_layer nat_eq world number object layer) (overlays world)) h)))
       (λ h. (under_at part world number (sym same) (λ merged m has. part_in_world sealing merged m) object layer h).0)
 
   -- under one of the layers that live overlays change

@@ -1,6 +1,6 @@
 -- A world after an unshare(2), whether the namespace that the caller leaves ends or not.
 use Rattle.std.proofs.Common.{arith, ◌≡◌, refl, sym, ap, subst, ◌∙◌, ◌⊎◌, inl, ⊎_elim, ℕ, zero, suc, nat_eq, Bool, true, false, cond, true≢false, List, [], ◌∷◌, ◌++◌, Option, Some, None, filter, flat_map, map, not, ◌||◌, ◌&&◌, eq-eqb, eqb-true, option_map, option_to_list}
-use Rattle.vt_spec.proofs.Common.{Among, Fresh, HasLivingGroups, Lives, Location, Mount, MountInvariants, Namespace, Serves, Task, World, after_going, among-append, among-append_left, among-append_right, among-filter, among-from_map, among-map, among_from_all, among_from_list_all, among_numbers, and_parts, any_among, any_from_among, chain, chain_ends, common_steps, copied_mount, detached, evens, false_from_ne_true, filter-append, filter_all, has_master, has_members, has_no_master, has_tasks, holds_of, is_among_numbers, is_going, is_listed, is_lost_group, is_member_of, last_or, list_all, list_all_from_among, list_any, lost_a_group, map-append, map_alike, map_same, mount_at, mount_point_left, mount_point_of_parent, mounts_of, namespaces_ended, none_from_among, numbers_by, numbers_in_use, odds, or_left, or_right, replaced_if_called, same_name, source_of, then_some, unshared, unshared_task, used_by_filesystem, used_by_mount}
+use Rattle.vt_spec.proofs.Common.{Among, Fresh, HasLivingGroups, Lives, Location, Mount, MountInvariants, Namespace, Serves, Task, World, after_going, among-append, among-append_left, among-append_right, among-filter, among-from_map, among-map, among_from_all, among_from_list_all, among_numbers, and_parts, any_among, any_from_among, chain, chain_ends, common_steps, copied_mount, detached, evens, false_from_ne_true, filter-append, filter_all, has_master, has_members, has_no_master, has_tasks, holds_of, is_among_numbers, is_going, is_listed, is_lost_group, is_member_of, last_or, list_all, list_all_from_among, list_any, lost_a_group, map-append, map_alike, map_same, mount_at, inherited_mount_point, mount_point_of_parent, mounts_of, namespaces_ended, none_from_among, numbers_by, numbers_in_use, odds, or_left, or_right, replaced_if_called, same_name, source_of, then_some, unshared, unshared_task, used_by_filesystem, used_by_mount}
 use Rattle.vt_laws_members.proofs.Common.{MountsAreListed, none_lost, unshare_keeps_mounts}
 use Rattle.vt_laws_members.proofs.changes.Common.{in_same, in_space, mount_parent, none_ends, numbers_in}
 use Rattle.vt_laws_members.proofs.changes.letting_go.ExitLast.{ends_so}
@@ -163,7 +163,7 @@ module _ (w : World ℕ) (fresh : Fresh ℕ) (task : Task ℕ) (can : CanUnshare
   cut_so m n = cc (goes m n, by (in_space k m) refl)
     where
       point_stays : in_space k m ≡ false → (o : Option (Location ℕ)) → m.mount_point ≡ o
-          → option_map (mount_point_left nat_eq base gone) o ≡ o
+          → option_map (inherited_mount_point nat_eq base gone) o ≡ o
       point_stays e None f = refl
       point_stays e (Some l) f =
           let up = mount_parent base base_kept m l n f in
@@ -173,7 +173,7 @@ module _ (w : World ℕ) (fresh : Fresh ℕ) (task : Task ℕ) (can : CanUnshare
           (ap (λ b. cond b (mount_at nat_eq base l).mount_point None) out))
 
       by : (b : Bool) → in_space k m ≡ b → cond b (detached m) (record m {
-        mount_point = option_map (mount_point_left nat_eq base gone) m.mount_point;
+        mount_point = option_map (inherited_mount_point nat_eq base gone) m.mount_point;
       }) ≡ cond b (detached m) m
       by true e = refl
       by false e = ap (λ o. record m { mount_point = o }) (point_stays e m.mount_point refl)

@@ -1,6 +1,6 @@
 -- Groups live on where a tree of mounts is attached: those that were there, and the images of those that take part.
 use Rattle.std.proofs.Common.{arith, ◌≡◌, refl, sym, ap, subst, ◌∙◌, true, false, nat_eq, ℕ, Bool, List, None, Option, Some, find, inl, length, option_map, unwrap_or, ⊎_elim, ◌⊎◌, if◌then◌else◌}
-use Rattle.vt_spec.proofs.Common.{Among, Copies, Graft, Location, Mount, Private, Propagation, Shared, Slave, Twig, Unbindable, World, any_among, any_from_among, attached_by, common_steps, copy_type, found_or_none, graft_of, group_of, groups_up, has_master, has_members, has_no_master, image, is_destination, is_member_of, mount_at, nearest_image, parts_of, same_Some, slave_of_heir, source_of, twig_of, type_at, type_at_part, type_on_shared}
+use Rattle.vt_spec.proofs.Common.{Among, Copies, Graft, Location, Mount, Private, Propagation, Shared, Slave, Twig, Unbindable, World, any_among, any_from_among, attached_by, common_steps, copy_type, found_or_none, graft_of, group_of, groups_up, has_master, has_members, has_no_master, image, is_destination, is_member_of, mount_at, image_of_nearest_group, parts_of, same_Some, slave_of_heir, source_of, twig_of, type_at, type_at_part, type_on_shared}
 use Rattle.vt_laws_mounts.specs.Mounts.Attaching.{OneNumberAMount}
 use Rattle.vt_laws_mounts.specs.Mounts.Copies.{ServeAsImages}
 use Rattle.vt_laws_mounts.specs.Mounts.Receivers.{GroupsLive}
@@ -65,7 +65,7 @@ module _ {world : World ℕ} {new : Copies ℕ} (place : Location ℕ) (moves : 
   image_of origin = image nat_eq new destination (twig origin)
 
   abbrev nearest : Mount ℕ → Option ℕ → Option ℕ
-  nearest origin = nearest_image nat_eq world new parts destination (twig origin)
+  nearest origin = image_of_nearest_group nat_eq world new parts destination (twig origin)
 
   abbrev kind_elsewhere : Mount ℕ → Propagation ℕ → Propagation ℕ
   kind_elsewhere origin = copy_type nat_eq world new parts destination (twig origin)

@@ -1,6 +1,6 @@
 -- The groups that are new where a tree of mounts is attached, and their masters.
 use Rattle.std.proofs.Common.{arith, ◌≡◌, refl, sym, ap, ◌∙◌, true, false, nat_eq, ℕ, Bool, List, None, Option, Some, [], eq-eqb, inl, inr, not, true≢false, ⊎_elim, ◌∷◌, ◌⊎◌, filter_map, option_map, if◌then◌else◌, unwrap_or}
-use Rattle.vt_spec.proofs.Common.{Among, Copies, Graft, Location, Mount, Propagation, Shared, Twig, World, all_groups_made, among-filter_map, among-flat_map, among-from_filter, among-from_filter_map, among-from_flat_map, among-from_map, among-map, any_from_among, attached_by, common_steps, eqb_tells, folded, graft_of, group_made, group_of, has_members, image, is_destination, is_member_of, is_shared, master_after, masters_with, mount_at, nat_eq_false_turned, nearest_image, number-mount_in, parts_of, receivers_of, takes_part, then_some, twig_master, twig_of, type_on_shared, when}
+use Rattle.vt_spec.proofs.Common.{Among, Copies, Graft, Location, Mount, Propagation, Shared, Twig, World, all_groups_made, among-filter_map, among-flat_map, among-from_filter, among-from_filter_map, among-from_flat_map, among-from_map, among-map, any_from_among, attached_by, common_steps, eqb_tells, folded, graft_of, group_made, group_of, has_members, image, is_destination, is_member_of, is_shared, master_after, masters_with, mount_at, nat_eq_false_turned, image_of_nearest_group, number-mount_in, parts_of, receivers_of, takes_part, then_some, twig_master, twig_of, type_on_shared, when}
 use Rattle.vt_laws_mounts.specs.Mounts.Attaching.{OneNumberAMount}
 use Rattle.vt_laws_mounts.specs.Mounts.Copies.{ServeAsImages}
 use Rattle.vt_laws_mounts.proofs.GroupsKept.{member_shared}
@@ -50,7 +50,7 @@ module _ {world : World ℕ} {new : Copies ℕ} (place : Location ℕ) (moves : 
   after = attached_by nat_eq world new place moves mounts
 
   abbrev pub nearest : Mount ℕ → Option ℕ → Option ℕ
-  nearest origin above = nearest_image nat_eq world new parts destination (twig origin) above
+  nearest origin above = image_of_nearest_group nat_eq world new parts destination (twig origin) above
 
   -- the master of the image of a group
   abbrev pub image_master : ℕ → Mount ℕ → Option ℕ

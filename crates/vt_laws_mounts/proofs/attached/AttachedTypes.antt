@@ -1,7 +1,7 @@
 -- The types of mounts where a tree of mounts is attached: each mount that was there keeps its type, or moves and takes
 -- that of the tree, and each mount of the tree has a copy at each part.
 use Rattle.std.proofs.Common.{arith, ◌≡◌, refl, sym, ap, subst, ◌∙◌, true, false, nat_eq, ℕ, Bool, List, None, Option, Some, [], eq-eqb, eqb-true, flat_map, inl, inr, map, ⊎_elim, ◌++◌, ◌∷◌, ◌⊎◌}
-use Rattle.vt_spec.proofs.Common.{Among, Copies, Graft, Location, Mount, Propagation, Shared, Twig, World, added_mounts, among-append, among-append_left, among-append_right, among-flat_map, among-folded_mounts, among-from_flat_map, among-from_map, among-map, among_numbers, any_among, any_from_among, attached_by, common_steps, copies_at, copy_at, copy_number, folded, graft_of, group_of, is_among, is_member_of, mount_at, mount_in, number-mount_in, parts_of, pushed_up, rest_of, twig_of, type_at, type_at_part, type_on_shared, with_mount, with_moved_mounts}
+use Rattle.vt_spec.proofs.Common.{Among, Copies, Graft, Location, Mount, Propagation, Shared, Twig, World, added_mounts, among-append, among-append_left, among-append_right, among-flat_map, among-folded_mounts, among-from_flat_map, among-from_map, among-map, among_numbers, any_among, any_from_among, attached_by, common_steps, copies_at, copy_at, copy_number, folded, graft_of, group_of, is_among, is_member_of, mount_at, mount_in, number-mount_in, parts_of, moved_onto_copy, rest_of, twig_of, type_at, type_at_part, type_on_shared, with_mount, with_moved_mounts}
 use Rattle.vt_laws_mounts.specs.Mounts.Attaching.{OneNumberAMount, numbers_of}
 use Rattle.vt_laws_mounts.proofs.attached.AttachedGroups.{HasCopies, IsOldOrCopy, MembersStay, kind_at}
 use Rattle.vt_laws_mounts.proofs.GroupsKept.{member_shared, shared_member}
@@ -93,7 +93,7 @@ module _ (world : World ℕ) (new : Copies ℕ) (place : Location ℕ) (moves : 
   copies = copies_at nat_eq world new tree parts
 
   abbrev push : Mount ℕ → Mount ℕ
-  push = pushed_up nat_eq world new tree parts
+  push = moved_onto_copy nat_eq world new tree parts
 
   abbrev movers : Bool → List (Mount ℕ)
   movers b = with_moved_mounts nat_eq b world.mounts (copies destination)
@@ -176,7 +176,7 @@ module _ (world : World ℕ) (new : Copies ℕ) (place : Location ℕ) (mounts :
       let later = (attached_by nat_eq world new place false mounts).mounts in
       let member = any_among (is_member_of nat_eq group) world.mounts has in
       let pushed =
-      pushed_up nat_eq world new (graft_of nat_eq world new place false mounts) (parts_of nat_eq world place)
+      moved_onto_copy nat_eq world new (graft_of nat_eq world new place false mounts) (parts_of nat_eq world place)
       member.0 in
       any_from_among (is_member_of nat_eq group) later pushed
       (pushed_among world new place false mounts member.0 member.1) (shared_member group pushed

@@ -1,7 +1,7 @@
 -- A tree of mounts is grafted: copies of it come to parts, and what stood at a receiver is pushed onto the topmost
 -- copy. A bind or a new mount copies the tree to the destination too; a move takes the tree itself there.
 use Rattle.std.proofs.Common.{Bool, List, None, Option, Some, ap, eq-eqb, false, flat_map, inl, map, nat_eq, option_map, refl, subst, sym, true, unwrap_or, ℕ, ⊎_elim, ◌&&◌, ◌++◌, ◌∙◌, ◌∷◌, ◌≡◌, if◌then◌else◌}
-use Rattle.vt_spec.proofs.Common.{Among, Copies, Graft, Location, Mount, Stands, Twig, World, all_from_among, among-append, among-append_right, among-flat_map, among-from_flat_map, among-from_map, among-map, among_from_all, any_pair, at_root, attached_by, copies_at, copy_at, first_of_list, graft_of, group_of, holds_of, is_among, is_top, mount_at, mount_numbered, mount_point_on_copy, number-mount_in, on_parent, parts_of, pushed_onto, pushed_up, receiver_stood_on, rest_of, same_Some, top_of_copies, twig_of}
+use Rattle.vt_spec.proofs.Common.{Among, Copies, Graft, Location, Mount, Stands, Twig, World, all_from_among, among-append, among-append_right, among-flat_map, among-from_flat_map, among-from_map, among-map, among_from_all, any_pair, at_root, attached_by, copies_at, copy_at, first_of_list, graft_of, group_of, holds_of, is_among, is_top, mount_at, mount_numbered, mount_point_on_copy, number-mount_in, on_parent, parts_of, pushed_onto, moved_onto_copy, receiver_stood_on, rest_of, same_Some, top_of_copies, twig_of}
 use Rattle.vt_laws_mounts.specs.Mounts.Attaching.{OneNumberAMount, is_mount}
 use Rattle.vt_laws_mounts.specs.Mounts.Copies.{ServeAsCopies}
 use Rattle.vt_laws_mounts.specs.Mounts.Invariants.{NowhereOrAttached}
@@ -86,7 +86,7 @@ module _ {world : World ℕ} {new : Copies ℕ} {place : Location ℕ} {moves : 
   after = attached_by nat_eq world new place moves mounts
 
   abbrev pub push : Mount ℕ → Mount ℕ
-  push = pushed_up nat_eq world new tree all_parts
+  push = moved_onto_copy nat_eq world new tree all_parts
 
   pub one_after : OneNumberAMount after.mounts
   one_after = copies_keep_numbers world new place moves mounts grafts.serve grafts.own grafts.one

@@ -1,6 +1,6 @@
 -- What namespaces have left of their mounts where some are taken away.
 use Rattle.std.proofs.Common.{◌≡◌, refl, sym, ap, subst, ◌∙◌, true, false, nat_eq, ℕ, Bool, List, None, Option, Some, [], arith, filter, flat_map, inl, inr, is_some, length, map, not, option_map, zero, suc, true≢false, ⊎_elim, ◌&&◌, ◌∷◌, ◌≤◌, ◌⊎◌, le-leb}
-use Rattle.vt_spec.proofs.Common.{Among, Location, Mount, Namespace, World, after_going, all_from_among, among-from_filter, among-from_flat_map, among-from_map, among_from_contains, among_from_list_all, among_numbers, and-false, any_among, common_steps, contains_from_among, filter_here, filter_skip, has_tasks, holds_of, inheriting, is_going, is_in_ended, is_point, is_root_mount, list_all_from_among, list_any, mount_at, mount_in, mount_numbered, mount_point_left, mount_tree, mounts_on, number-mount_in, points_of, taken_away, tree_from}
+use Rattle.vt_spec.proofs.Common.{Among, Location, Mount, Namespace, World, after_going, all_from_among, among-from_filter, among-from_flat_map, among-from_map, among_from_contains, among_from_list_all, among_numbers, and-false, any_among, common_steps, contains_from_among, filter_here, filter_skip, has_tasks, holds_of, inheriting, is_going, is_in_ended, is_point, is_root_mount, list_all_from_among, list_any, mount_at, mount_in, mount_numbered, inherited_mount_point, mount_tree, mounts_on, number-mount_in, points_of, taken_away, tree_from}
 use Rattle.vt_laws_mounts.specs.Mounts.Invariants.{OneNumberEach}
 use Rattle.vt_laws_mounts.specs.Mounts.Ending.{ByEndedNamespaces, ByPoints, ByReplaced, ByTrees, ByUnmount, EndedNamespacesKeepRootMounts, HasNoMoreMounts, IsOutOrStays, PointsKeepRootMounts, ReplacedKeepsRootMounts, TakesNoMountsIn, TreesKeepRootMounts, UnmountKeepsRootMounts, root_mounts_in, is_in}
 use Rattle.vt_laws_mounts.proofs.Groups.{mounts-regrouped}
@@ -87,7 +87,7 @@ module _ (world : World ℕ) (gone : List ℕ) where
       no_root mount (inr e) = ap (λ b. b && is_root_mount nat_eq mount) e
 
       placed_alike : (place : Option (Location ℕ))
-          → is_some (option_map (mount_point_left nat_eq world gone) place) ≡ is_some place
+          → is_some (option_map (inherited_mount_point nat_eq world gone) place) ≡ is_some place
       placed_alike None = refl
       placed_alike (Some p) = refl
 

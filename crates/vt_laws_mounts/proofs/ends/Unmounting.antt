@@ -1,6 +1,6 @@
 -- An unmount takes just the mounts that propagation names.
 use Rattle.std.proofs.Common.{arith, ◌≡◌, refl, sym, ap, ◌∙◌, ℕ, zero, suc, nat_eq, Bool, true, false, true≢false, List, length, map, Option, Some, None, is_some, find, if◌then◌else◌, option_map}
-use Rattle.vt_spec.proofs.Common.{Location, Mount, Private, Propagation, Shared, Slave, Unbindable, World, after_going, among_from_list_all, and_parts, chain, chain_ends, chain_goes_on, common_steps, detached, found_or_none, going, groups_up, has_members, inherited, inheriting, is_going, last_of_chain, last_or, length-map, mount_at, mount_in, mount_numbered, mount_point_left, mount_point_of_parent, no_mount, not-true, number-mount_in, slave_of_heir, stands_in_its_namespace, taken_away, with_mounts}
+use Rattle.vt_spec.proofs.Common.{Location, Mount, Private, Propagation, Shared, Slave, Unbindable, World, after_going, among_from_list_all, and_parts, chain, chain_ends, chain_goes_on, common_steps, detached, found_or_none, going, groups_up, has_members, inherited, inheriting, is_going, last_of_chain, last_or, length-map, mount_at, mount_in, mount_numbered, inherited_mount_point, mount_point_of_parent, no_mount, not-true, number-mount_in, slave_of_heir, stands_in_its_namespace, taken_away, with_mounts}
 use Rattle.vt_laws_mounts.specs.Mounts.Unmounting.{FallsTo, GroupsKeepTheirMasters, KeepsAllButMounts, KeepsAllButMountPointAndType, ChainsEnd, RootMountsStay, SlavesAreInherited, UnmountIsOfMounts, UnmountKeepsTheOrder, WhatCoveredFalls, WhatGoesIsDetached, WhatStaysKeeps, WhatStaysKeepsItsMountPoint, WhatStaysKeepsItsType, has_its_master}
 use Rattle.vt_laws_mounts.specs.Mounts.Unmounting.FallsTo.{falls, rests}
 use Rattle.vt_laws_mounts.proofs.Groups.{inherited_kept, master-regrouped, members-regrouped, mounts-regrouped}
@@ -13,13 +13,13 @@ module _ (world : World ℕ) (gone : List ℕ) where
   pub going_is_detached : (mount : Mount ℕ) → is_going nat_eq gone mount.number ≡ true
       → after_going nat_eq world gone mount ≡ detached mount
   going_is_detached mount e = ap (λ b. if b then detached mount else
-      (record mount { mount_point = option_map (mount_point_left nat_eq world gone) mount.mount_point })) e
+      (record mount { mount_point = option_map (inherited_mount_point nat_eq world gone) mount.mount_point })) e
 
   pub staying_is_placed : (mount : Mount ℕ) → is_going nat_eq gone mount.number ≡ false
       → after_going nat_eq world gone mount
-      ≡ record mount { mount_point = option_map (mount_point_left nat_eq world gone) mount.mount_point }
+      ≡ record mount { mount_point = option_map (inherited_mount_point nat_eq world gone) mount.mount_point }
   staying_is_placed mount e = ap (λ b. if b then detached mount else
-      (record mount { mount_point = option_map (mount_point_left nat_eq world gone) mount.mount_point })) e
+      (record mount { mount_point = option_map (inherited_mount_point nat_eq world gone) mount.mount_point })) e
 
   none_after : (number : ℕ) → after_going nat_eq world gone (no_mount number) ≡ no_mount number
   none_after number = grind (arith, common_steps)
@@ -47,7 +47,7 @@ module _ (world : World ℕ) (gone : List ℕ) where
   taken_staying : (number : ℕ) → is_going nat_eq gone (mount_numbered nat_eq world number).number ≡ false
       → mount_numbered nat_eq (taken_away nat_eq world gone) number ≡ inheriting nat_eq middle
       (record (mount_numbered nat_eq world number) {
-        mount_point = option_map (mount_point_left nat_eq world gone) (mount_numbered nat_eq world number).mount_point;
+        mount_point = option_map (inherited_mount_point nat_eq world gone) (mount_numbered nat_eq world number).mount_point;
       })
   taken_staying number e = taken number ∙ ap (inheriting nat_eq middle) (staying_is_placed _ e)
 
@@ -116,7 +116,7 @@ module _ (world : World ℕ) (gone : List ℕ) where
 
   place_by_number : (number : ℕ) (place : Location ℕ) → is_going nat_eq gone number ≡ false
       → (before_it number).mount_point ≡ Some place
-      → (left number).mount_point ≡ Some (mount_point_left nat_eq world gone place)
+      → (left number).mount_point ≡ Some (inherited_mount_point nat_eq world gone place)
   place_by_number number place e at = cc (taken_staying number (goes_so number false e))
 
   pub place_kept : (number : ℕ) (place : Location ℕ) → is_going nat_eq gone number ≡ false

@@ -1,6 +1,6 @@
 -- An unmount leaves at most one mount at a place.
 use Rattle.std.proofs.Common.{arith, ◌≡◌, refl, sym, ap, subst, ◌∙◌, true, false, zero, suc, Bool, List, None, Option, Some, [], eq-eqb, is_some, nat_eq, option_map, ⊎_elim, ◌∷◌, ◌⊎◌, ℕ, inl, inr, filter_map, if◌then◌else◌}
-use Rattle.vt_spec.proofs.Common.{Among, Location, Mount, World, after_going, among-filter, among-from_filter_map, among-from_map, among_numbers, any_pair, chain, chain_ends, chain_goes_on, common_steps, false_from_ne_true, goes_at, going, going_at, going_from, holds_of, inheriting, is_going, last_of_chain, last_or, may_go, mount_at, mount_in, mount_numbered, mount_point_left, mount_point_of_parent, none_among, number-mount_in, only_cover, pair-map, receivers_of, same_Some, share_a_mount_point, stands_at, stands_on, taken_away}
+use Rattle.vt_spec.proofs.Common.{Among, Location, Mount, World, after_going, among-filter, among-from_filter_map, among-from_map, among_numbers, any_pair, chain, chain_ends, chain_goes_on, common_steps, false_from_ne_true, goes_at, going, going_at, going_from, holds_of, inheriting, is_going, last_of_chain, last_or, may_go, mount_at, mount_in, mount_numbered, inherited_mount_point, mount_point_of_parent, none_among, number-mount_in, only_cover, pair-map, receivers_of, same_Some, share_a_mount_point, stands_at, stands_on, taken_away}
 use Rattle.vt_laws_mounts.specs.Mounts.Invariants.{AreApart, OneMountEachMountPoint, UnmountLeavesOneMountAMountPoint}
 use Rattle.vt_laws_mounts.proofs.ends.UnmountingGoes.{child_goes}
 use Rattle.vt_laws_mounts.proofs.mounts.MountsPlaces.{one_place_of_two, one_stander, place_of_both, stands_there}
@@ -40,10 +40,10 @@ module _ (world : World ℕ) (gone : List ℕ) where
   stood a rest e = by _ refl
     where
       at : (place : Option (Location ℕ)) → a.mount_point ≡ place
-          → option_map (mount_point_left nat_eq world gone) place ≡ Some rest → Falls world gone a rest
+          → option_map (inherited_mount_point nat_eq world gone) place ≡ Some rest → Falls world gone a rest
       at None f g = cc
       at (Some place) f g =
-          let same : mount_point_left nat_eq world gone place ≡ rest = same_Some _ rest g in
+          let same : inherited_mount_point nat_eq world gone place ≡ rest = same_Some _ rest g in
           subst (Falls world gone a) same (falls_down a _ place (direct place f))
 
       by : (b : Bool) → is_going nat_eq gone a.number ≡ b

@@ -1,6 +1,6 @@
 -- What is attached leaves the mounts that were there.
 use Rattle.std.proofs.Common.{arith, ◌≡◌, refl, sym, ap, ◌∙◌, Bool, List, None, [], ℕ, ◌∷◌, nat_eq, append_assoc, eq-eqb, find, flat_map, inl, inr, map, subst, ◌++◌, false, true, length, ◌⊎◌, if◌then◌else◌}
-use Rattle.vt_spec.proofs.Common.{Among, Copies, Fresh, Graft, Location, Mount, World, added_mounts, among-from_map, among-map, attached_by, common_steps, copies_at, copies_from, copy_number, folded, graft_of, is_among, list_any, map-append, mount_at, mount_in, mount_numbered, moved_tree, nat_eq_false_turned, no_mount, none_among, number-mount_in, or_parts, parts_of, pushed_onto, pushed_up, rest_of, stands_at, tree_among, with_mount, with_moved_mounts}
+use Rattle.vt_spec.proofs.Common.{Among, Copies, Fresh, Graft, Location, Mount, World, added_mounts, among-from_map, among-map, attached_by, common_steps, copies_at, copies_from, copy_number, folded, graft_of, is_among, list_any, map-append, mount_at, mount_in, mount_numbered, moved_tree, nat_eq_false_turned, no_mount, none_among, number-mount_in, or_parts, parts_of, pushed_onto, moved_onto_copy, rest_of, stands_at, tree_among, with_mount, with_moved_mounts}
 use Rattle.vt_laws_mounts.specs.Mounts.Attaching.{KeepsAllButMountPoint, AttachKeepsMounts, AttachLeavesMounts, KeepsWhatItShows, MoveKeepsMounts, MoveLeavesMounts, NewMountsFollow, is_mount, numbers_of, stands_at_a_receiver, MovedMountsShow}
 use Rattle.vt_laws_mounts.proofs.mounts.MountsReplaced.{found-append, found-with_mount_other, numbers-with_mount, found_itself, related-with_mount}
 use Rattle.vt_laws_mounts.proofs.mounts.MountsFound.{found-map, numbers-map}
@@ -14,7 +14,7 @@ none_found test (x ∷ xs) h =
 
 module _ (world : World ℕ) (new : Copies ℕ) (graft : Graft ℕ) (parts : List (Mount ℕ)) where
   -- a receiver moves a mount up, or none does
-  pub push_keeps : (mount : Mount ℕ) → KeepsAllButMountPoint mount (pushed_up nat_eq world new graft parts mount)
+  pub push_keeps : (mount : Mount ℕ) → KeepsAllButMountPoint mount (moved_onto_copy nat_eq world new graft parts mount)
   push_keeps mount = grind (arith, common_steps)
 
   abbrev pub is_pushed_by : Mount ℕ → Mount ℕ → Bool
@@ -23,7 +23,7 @@ module _ (world : World ℕ) (new : Copies ℕ) (graft : Graft ℕ) (parts : Lis
 
   -- what stands at no receiver's place is left
   pub none_pushes : (mount : Mount ℕ) → list_any (is_pushed_by mount) (rest_of parts) ≡ false
-      → pushed_up nat_eq world new graft parts mount ≡ mount
+      → moved_onto_copy nat_eq world new graft parts mount ≡ mount
   none_pushes mount h = ap (pushed_onto nat_eq world new graft parts mount)
       (none_found (is_pushed_by mount) (rest_of parts) h)
 
@@ -32,7 +32,7 @@ module _ (world : World ℕ) (new : Copies ℕ) (graft : Graft ℕ) (parts : Lis
   stands_nowhere number [] = refl
   stands_nowhere number (receiver ∷ receivers) = stands_nowhere number receivers
 
-  pub none_pushed : (number : ℕ) → pushed_up nat_eq world new graft parts (no_mount number) ≡ no_mount number
+  pub none_pushed : (number : ℕ) → moved_onto_copy nat_eq world new graft parts (no_mount number) ≡ no_mount number
   none_pushed number = none_pushes (no_mount number) (stands_nowhere number (rest_of parts))
 
 -- mounts that are replaced one after the other
@@ -58,7 +58,7 @@ module _ (world : World ℕ) (new : Copies ℕ) (place : Location ℕ) (moves : 
   parts = parts_of nat_eq world place
 
   abbrev pub push : Mount ℕ → Mount ℕ
-  push = pushed_up nat_eq world new graft parts
+  push = moved_onto_copy nat_eq world new graft parts
 
   -- what comes to the destination
   abbrev pub arriving : List (Mount ℕ)

@@ -1,6 +1,6 @@
 -- What a granted call leaves.
 use Rattle.std.proofs.Common.{arith, ◌≡◌, refl, sym, ap, ◌∙◌, ℕ, nat_eq, Bool, true, false, not, ◌||◌, List, [], ◌∷◌, Some, is_ok, ok_or, Ok, Result, flat_map, inl, inr, is_some, map, subst, ◌⊎◌}
-use Rattle.vt_spec.proofs.Common.{Answer, Call, Fresh, Mount, Outcome, Permit, Stop, Task, TaskName, World, after, apply, call_outcome, common_steps, denial, filesystems_changed_by, finished, finished_by, judge_in, list_any, locations_of, looks_of, mount_lives, numbers_raised, only_looks, overfills, policy, raised_task, same_ok, settled, task_called, walk_end}
+use Rattle.vt_spec.proofs.Common.{Answer, Call, Fresh, Mount, Outcome, Permit, Stop, Task, TaskName, World, after, apply, call_outcome, common_steps, denial, filesystems_changed_by, finished, finished_unless, judge_in, list_any, locations_of, looks_of, mount_lives, numbers_raised, only_looks, overfills, policy, raised_task, same_ok, settled, task_called, walk_end}
 use Rattle.vt_spec.specs.declared.errors.Rule.TheVariants.{S2}
 use Rattle.vt_laws_mounts.specs.Mounts.FileCalls.{HasLiving}
 use Rattle.std.proofs.lemmas.List.Elements.{filter_agree}
@@ -35,8 +35,8 @@ living_then before world name changed = filter_agree (mount_lives nat_eq world)
 
 -- a call leaves its outcome's world, or that without the dead
 finished_leaves : (b : Bool) (before : World ℕ) (name : TaskName) (changed : List ℕ) (outcome : Outcome ℕ)
-    → ((finished_by nat_eq b before name changed outcome).world.mounts ≡ outcome.world.mounts)
-    ⊎ HasLiving (finished_by nat_eq b before name changed outcome).world outcome.world.mounts
+    → ((finished_unless nat_eq b before name changed outcome).world.mounts ≡ outcome.world.mounts)
+    ⊎ HasLiving (finished_unless nat_eq b before name changed outcome).world outcome.world.mounts
 finished_leaves true before name changed outcome = inl refl
 finished_leaves false before name changed outcome = inr (living_then before outcome.world name changed)
 
@@ -57,7 +57,7 @@ module _ (fresh : Fresh ℕ) (world : World ℕ) (name : TaskName) (task : Task 
       (λ t. finished nat_eq world name call (changed t) (call_outcome nat_eq fresh world t call))) is
 
   answer_stays : (b : Bool) (outcome : Outcome ℕ)
-      → (finished_by nat_eq b world name (changed task) outcome).answer ≡ outcome.answer
+      → (finished_unless nat_eq b world name (changed task) outcome).answer ≡ outcome.answer
   answer_stays true outcome = refl
   answer_stays false outcome = refl
 
@@ -70,9 +70,9 @@ module _ (fresh : Fresh ℕ) (world : World ℕ) (name : TaskName) (task : Task 
       → HasLiving (policy nat_eq fresh world name call).world (call_outcome nat_eq fresh world task call).world.mounts
   settles answer looks e =
       let outcome = call_outcome nat_eq fresh world task call in
-      let ends : policy nat_eq fresh world name call ≡ finished_by nat_eq false world name (changed task) outcome =
+      let ends : policy nat_eq fresh world name call ≡ finished_unless nat_eq false world name (changed task) outcome =
       cc (policy_is, looks)
-      ∙ ap (λ a. finished_by nat_eq (not (is_ok a)) world name (changed task) outcome) (sym answered ∙ e) in
+      ∙ ap (λ a. finished_unless nat_eq (not (is_ok a)) world name (changed task) outcome) (sym answered ∙ e) in
       subst (λ o. HasLiving o.world outcome.world.mounts) (sym ends)
       (living_then world outcome.world name (changed task))
 

@@ -1,6 +1,6 @@
 -- The copy of a mount at a part, as it is found after a tree was attached.
 use Rattle.std.proofs.Common.{arith, ◌≡◌, refl, sym, ap, subst, ◌∙◌, true, false, nat_eq, ℕ, Bool, List, Some, eq-eqb, eqb-true, flat_map, map, ⊎_elim, ◌&&◌, ◌++◌, ◌∷◌, if◌then◌else◌}
-use Rattle.vt_spec.proofs.Common.{Among, Copies, Graft, Location, Mount, Twig, World, among-append_left, among-append_right, among-flat_map, among-from_filter, among-map, attached_by, common_steps, copies_at, copy_at, graft_of, group_of, is_among, list_any, mount_at, mount_in, mount_numbered, nat_eq_false_turned, none_from_among, number-mount_in, pair-map, parts_of, pushed_up, receivers_of, rest_of, takes_part, twig_of}
+use Rattle.vt_spec.proofs.Common.{Among, Copies, Graft, Location, Mount, Twig, World, among-append_left, among-append_right, among-flat_map, among-from_filter, among-map, attached_by, common_steps, copies_at, copy_at, graft_of, group_of, is_among, list_any, mount_at, mount_in, mount_numbered, nat_eq_false_turned, none_from_among, number-mount_in, pair-map, parts_of, moved_onto_copy, receivers_of, rest_of, takes_part, twig_of}
 use Rattle.vt_laws_mounts.specs.Mounts.Attaching.{KeepsAllButMountPoint, OneNumberAMount, numbers_of}
 use Rattle.vt_laws_mounts.specs.Mounts.Copies.{ServeAsCopies}
 use Rattle.vt_laws_mounts.proofs.mounts.MountsAttached.{arriving, found_attached, is_pushed_by, keeps_number, moved_ones, none_pushes, push_keeps}
@@ -31,7 +31,7 @@ module _ (world : World ℕ) (new : Copies ℕ) (place : Location ℕ) (moves : 
   copies = copies_at nat_eq world new tree parts
 
   abbrev pub push : Mount ℕ → Mount ℕ
-  push = pushed_up nat_eq world new tree parts
+  push = moved_onto_copy nat_eq world new tree parts
 
   abbrev pub stays : Mount ℕ → Bool
   stays part = moves && nat_eq part.number place.mount

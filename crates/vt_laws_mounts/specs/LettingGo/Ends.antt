@@ -10,6 +10,7 @@ use Rattle.vt_spec.specs.Machine.Namespaces.{has_tasks, namespaces_ended}
 use Rattle.vt_spec.specs.Machine.Receives.{regrouped}
 use Rattle.vt_spec.specs.Machine.World.{World, mounts_of, with_mounts}
 use Rattle.vt_spec.specs.Machine.Invariants.{is_listed}
+use Rattle.vt_laws_mounts.specs.Mounts.Ending.{is_in, mount_count}
 
 -- the namespace of each mount is there
 abbrev pub MountsAreListed : World ℕ → Type 0
@@ -36,14 +37,6 @@ OneNamespaceEnds =
     → list_any (λ task. nat_eq number task.namespace) world.tasks ≡ false
     → list_all (λ namespace. nat_eq number namespace.number || has_tasks nat_eq world namespace) world.namespaces ≡ true
     → namespaces_ended nat_eq world ≡ without_namespace world number
-
--- how many mounts a namespace has
-abbrev pub mount_count : World ℕ → ℕ → ℕ
-mount_count world namespace = length (mounts_of nat_eq world namespace)
-
--- the mount is in the namespace
-abbrev pub is_in : ℕ → Mount ℕ → Bool
-is_in namespace mount = holds_of (nat_eq namespace) mount.namespace
 
 -- Mounts that are added to one namespace count there,
 abbrev pub AddedMountsCount : Type 0

@@ -1,6 +1,6 @@
 -- What lines, looks and directives leave as it was.
 use Rattle.std.proofs.Common.{◌≡◌, refl, ℕ, nat_eq, Bool, true, ◌||◌, List, Option, Some, None, IfErr, ok_or, arith}
-use Rattle.vt_spec.proofs.Common.{Answered, Asking, Call, Calling, Fresh, Grammar, Outcome, Permit, Request, Silent, Step, Task, TaskName, World, apply, call_outcome, denial, finished_by, line_step_by, looks_of, only_looks, overfills, requested, spoken_step, task_called, common_steps}
+use Rattle.vt_spec.proofs.Common.{Answered, Asking, Call, Calling, Fresh, Grammar, Outcome, Permit, Request, Silent, Step, Task, TaskName, World, apply, call_outcome, denial, finished_unless, line_step_by, looks_of, only_looks, overfills, requested, spoken_step, task_called, common_steps}
 use Rattle.vt_laws_rules.proofs.rules.Outcomes.{after_keeps, error_is}
 use Rattle.vt_laws_rules.proofs.rules.OwnRules.{policy_refuses_own}
 use Rattle.vt_laws_rules.specs.Denials.{DeniedLineChangesNothing, DirectiveChangesNothing, LookChangesNothing, RefusedMemoryChangesNothing}
@@ -30,7 +30,7 @@ looks_keep fresh world task call permit e granted = cc
 -- no change number is raised by a look
 unraised : (looks granted : Bool) (world : World ℕ) (name : TaskName) (changed : List ℕ) (outcome : Outcome ℕ)
     → looks ≡ true → outcome.world ≡ world
-    → (finished_by nat_eq (looks || granted) world name changed outcome).world ≡ world
+    → (finished_unless nat_eq (looks || granted) world name changed outcome).world ≡ world
 unraised looks granted world name changed outcome e same = cc
 
 pub look_changes_nothing : LookChangesNothing

@@ -1,6 +1,6 @@
 -- The policy's last step raises change numbers alone.
 use Rattle.std.proofs.Common.{arith, ◌≡◌, refl, ◌⊎◌, inl, ℕ, ◌+◌, nat_eq, Bool, true, false, cond, List, [], ◌∷◌, ◌++◌, map}
-use Rattle.vt_spec.proofs.Common.{Filesystem, Namespace, Outcome, Task, TaskName, World, common_steps, finished_by, numbers_raised, raised, raised_if_changed, raised_namespace, raised_task, settled, without_changes}
+use Rattle.vt_spec.proofs.Common.{Filesystem, Namespace, Outcome, Task, TaskName, World, common_steps, finished_unless, numbers_raised, raised, raised_if_changed, raised_namespace, raised_task, settled, without_changes}
 use Rattle.vt_laws_rules.specs.Judged.{AreRaised, LastStepRaisesNumbersAlone, change_numbers}
 
 abbrev MayRise : ℕ → ℕ → Type 0
@@ -93,7 +93,7 @@ module _ (before : World ℕ) (name : TaskName) (changed : List ℕ) where
 
   finished_last : (keeps : Bool) (under : Outcome ℕ)
       → IsLastStep under (cond keeps under.world (settled nat_eq under.world))
-      (finished_by nat_eq keeps before name changed under)
+      (finished_unless nat_eq keeps before name changed under)
   finished_last true under = (refl, refl, none_rise (change_numbers under.world))
   finished_last false under = (refl, world_same (settled nat_eq under.world), world_rises (settled nat_eq under.world))
 

@@ -1,6 +1,6 @@
 -- What an outcome that is put together of steps that may be refused keeps of them.
 use Rattle.std.proofs.Common.{◌≡◌, refl, Bool, true, false, not, List, [], ◌∷◌, ◌++◌, ◌&&◌, ◌||◌, Result, Ok, Err, IfErr, is_ok, cond, bytes_eq, arith}
-use Rattle.vt_spec.proofs.Common.{Answer, Outcome, Rules, Stop, TaskName, World, after, and_then, and_true_right, denial, finished_by, judged, stopped_by, then_walk, unless, walk_end, walk_unless, common_steps}
+use Rattle.vt_spec.proofs.Common.{Answer, Outcome, Rules, Stop, TaskName, World, after, and_then, and_true_right, denial, finished_unless, judged, stopped_by, then_walk, unless, walk_end, walk_unless, common_steps}
 use Rattle.vt_laws_rules.specs.RuleRanks.{is_among}
 use Rattle.vt_spec.specs.declared.errors.Deny.{Deny}
 use Rattle.vt_spec.specs.declared.errors.Rule.{Rule}
@@ -93,7 +93,7 @@ module _ (rules : List Rule) where
     -- change numbers are raised where a call is granted alone
     pub finished_own : (eq : N → N → Bool) (world : World N) (name : TaskName) (changed : List N) (looks : Bool)
         (answer : Result Answer Deny) (left : World N) → DeniesOwn world (record { answer = answer; world = left })
-        → DeniesOwn world (finished_by eq (looks || not (is_ok answer)) world name changed
+        → DeniesOwn world (finished_unless eq (looks || not (is_ok answer)) world name changed
         (record { answer = answer; world = left }))
     finished_own eq world name changed looks answer left own = grind (arith, common_steps)
 

@@ -1,6 +1,6 @@
 -- Worlds that are the same but for change numbers and the order of numbers beside trees look alike.
 use Rattle.std.proofs.Common.{◌≡◌, refl, sym, ap, subst, ◌∙◌, ℕ, ◌+◌, nat_eq, Bool, true, false, cond, not, ◌||◌, ◌&&◌, List, [], ◌∷◌, ◌++◌, map, filter, flat_map, find, Option, Some, None, is_some, option_to_list, unwrap_or, arith}
-use Rattle.vt_spec.proofs.Common.{Change, Filesystem, IsPermutation-refl, Layer, Location, LowerObjectsHaveOneName, Mount, Overlay, Rules, SameFilesystem, SameFilesystems, Tree, World, attr_in, before_first, counts_in_layer, execute_right, filesystem_at, filesystem_numbered, has_entry_to, has_lower_directory, has_lower_directory_at, in_use, is_kind_in, is_locked, is_overlay, is_point, is_removed, layers_of, lies_in_layer, lies_only_in_lowers, lies_or_counts_under, list_any, list_any-IsPermutation, live_layers, live_upper_and_work, looks_of, mount_at, mounter_rules, no_filesystem, node_allows, of_overlay, open_layer, overlaps_one_of, overlay_or, overlay_rules, read_right, upper_and_work, upper_points, write_right, common_steps}
+use Rattle.vt_spec.proofs.Common.{Change, Filesystem, IsPermutation-refl, Layer, Location, LowerObjectsHaveOneName, Mount, Overlay, Rules, SameFilesystem, SameFilesystems, Tree, World, attr_in, before_first, counts_as_in_layer, execute_right, filesystem_at, filesystem_numbered, has_entry_to, has_lower_directory, has_lower_directory_at, in_use, is_kind_in, is_locked, is_overlay, is_point, is_removed, layers_of, lies_in_layer, lies_only_in_lowers, lies_or_counts_under, list_any, list_any-IsPermutation, live_layers, live_upper_and_work, looks_of, mount_at, mounter_rules, no_filesystem, node_allows, of_overlay, open_layer, overlaps_one_of, overlay_or, overlay_rules, read_right, upper_and_work, upper_points, write_right, common_steps}
 use Rattle.vt_laws_rules.proofs.same.SameFiles.{ancestors_same, directory_same, directory_under_same, path_same, under_same}
 use Rattle.vt_laws_rules.specs.Judged.{LookAlike}
 use Rattle.vt_spec.specs.declared.attributes.Kind.TheVariants.{File}
@@ -107,8 +107,8 @@ module _ (world : World ℕ) (others : List (Filesystem ℕ)) (same : SameFilesy
   lies_same filesystem object layer = cc (under_same _ _ (found filesystem).files layer.directory object)
 
   counts_same : (filesystem object : ℕ) (layer : Layer ℕ) (merged again : Filesystem ℕ) → SameFilesystem merged again
-      → counts_in_layer nat_eq world filesystem object layer merged
-      ≡ counts_in_layer nat_eq other filesystem object layer again
+      → counts_as_in_layer nat_eq world filesystem object layer merged
+      ≡ counts_as_in_layer nat_eq other filesystem object layer again
   counts_same filesystem object layer merged again alike =
       grind (arith, common_steps, lies_same, list_any-IsPermutation)
 

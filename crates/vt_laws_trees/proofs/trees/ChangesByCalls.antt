@@ -1,6 +1,6 @@
 -- Every call but the mount of an overlay leaves a world of trees.
 use Rattle.std.proofs.Common.{arith, eqb-true, ◌≡◌, refl, sym, ap, subst, true≢false, ℕ, nat_eq, eq-eqb, Bool, true, false, not, cond, List, [], ◌∷◌, ◌++◌, Option, Some, None, is_some, ok_or, inl, inr, ◌*◌, unwrap_or, All}
-use Rattle.vt_spec.proofs.Common.{Access, All-append, All-cons, All-filter, All-map, All-nil, All-weaker, Call, Change, CopyUp, Filesystem, Fresh, IsNewIn, Location, Mount, Node, NoneFails, Outcome, Permit, Place, SetBytes, SetMark, Task, TaskName, ToOpen, World, apply, call_outcome, common_steps, denial, entries_in-no_directory, evens, files_at, filesystems-taken_away, finished_by, first_mount, is_copied_up, is_directory_at, is_directory_node, is_overlay, is_special, linking, looks_of, making, mount_in, moving, new_directory, new_file, new_name_rules, new_plain, nil_from_not_some, no_filesystem, no_mount, node_at, none_is_not, object_there, odds, only_used, open_new_permit, opening, or_false_left, overfills, parent_in, plain_filesystem, pwritten, removing, root_attr, root_of, settled, special_word, taken_away, task_called, with_change, with_copy, with_new, without_dead_filesystems, without_dead_in, without_dead_mounts, without_replaced}
+use Rattle.vt_spec.proofs.Common.{Access, All-append, All-cons, All-filter, All-map, All-nil, All-weaker, Call, Change, CopyUp, Filesystem, Fresh, IsNewIn, Location, Mount, Node, NoneFails, Outcome, Permit, Place, SetBytes, SetMark, Task, TaskName, ToOpen, World, apply, call_outcome, common_steps, denial, entries_in-no_directory, evens, files_at, filesystems-taken_away, finished_unless, first_mount, is_copied_up, is_directory_at, is_directory_node, is_overlay, is_special, linking, looks_of, making, mount_in, moving, new_directory, new_file, new_name_rules, new_plain, nil_from_not_some, no_filesystem, no_mount, node_at, none_is_not, object_there, odds, only_used, open_new_permit, opening, or_false_left, overfills, parent_in, plain_filesystem, pwritten, removing, root_attr, root_of, settled, special_word, taken_away, task_called, with_change, with_copy, with_new, without_dead_filesystems, without_dead_in, without_dead_mounts, without_replaced}
 use Rattle.vt_spec.specs.declared.errors.Rule.TheVariants.{S2}
 use Rattle.vt_spec.specs.Machine.World.{new_tree}
 use Rattle.vt_spec.proofs.Trees.{is_tree-tree_of_root}
@@ -197,7 +197,7 @@ module _ (fresh : Fresh ℕ) (world : World ℕ) (task : Task ℕ) (conditions :
       granted_keeps call permit other granted)
 
 finished_keeps : (before : World ℕ) (name : TaskName) (changed : List ℕ) (outcome : Outcome ℕ) (b : Bool)
-    → IsWorldOfTrees outcome.world → IsWorldOfTrees (finished_by nat_eq b before name changed outcome).world
+    → IsWorldOfTrees outcome.world → IsWorldOfTrees (finished_unless nat_eq b before name changed outcome).world
 finished_keeps before name changed outcome true conditions = conditions
 finished_keeps before name changed outcome false conditions = same_filesystems _ _
     refl (raised_keeps_world changed (settled nat_eq outcome.world) (settled_keeps outcome.world conditions))

@@ -1,6 +1,6 @@
 -- Every call but the mount of an overlay keeps names, link texts and files within the limits.
 use Rattle.std.proofs.Common.{arith, eq-eqb, ◌≡◌, refl, sym, ap, subst, ◌∙◌, true≢false, ℕ, ◌+◌, ◌≤◌, nat_eq, nat_le, le-leb, leb-true, ltb-false, Bool, true, false, not, cond, List, [], ◌∷◌, ◌++◌, length, ◌&&◌, inl, inr, ⊎_elim, Option, Some, None, is_some, ok_or, length-append, length-drop, length-take, All}
-use Rattle.vt_spec.proofs.Common.{Access, All-append, All-cons, All-filter, All-nil, Call, Change, CopyUp, Filesystem, Fresh, Location, Node, NoneFails, Outcome, Permit, Place, SetBytes, Task, TaskName, ToOpen, World, and_parts, apply, bytes_in, call_outcome, changed, common_steps, denial, evens, files_at, filesystem_at, filesystem_changed, filesystem_lives, filesystems-taken_away, filesystems-without_replaced, filesystems_raised, finished_by, is_copied_up, is_directory_there, is_empty, is_fit_filesystem, is_overlay, is_special, largest_file, list_all, list_any, longest_path, looks_of, making, mount_at, moving, new_directory, new_file, new_plain, node_at, node_with_bytes, none_from_not_some, object_there, odds, open_new_permit, or_false_left, overfills, overwritten, plain_filesystem, pwritten, raised, raised_if_changed, removing, root_attr, settled, task_called, with_change, with_copy, with_files, with_new, without_dead_filesystems, without_dead_in, without_dead_mounts, without_mounts_on, without_replaced}
+use Rattle.vt_spec.proofs.Common.{Access, All-append, All-cons, All-filter, All-nil, Call, Change, CopyUp, Filesystem, Fresh, Location, Node, NoneFails, Outcome, Permit, Place, SetBytes, Task, TaskName, ToOpen, World, and_parts, apply, bytes_in, call_outcome, changed, common_steps, denial, evens, files_at, filesystem_at, filesystem_changed, filesystem_lives, filesystems-taken_away, filesystems-without_replaced, filesystems_raised, finished_unless, is_copied_up, is_directory_there, is_empty, is_fit_filesystem, is_overlay, is_special, largest_file, list_all, list_any, longest_path, looks_of, making, mount_at, moving, new_directory, new_file, new_plain, node_at, node_with_bytes, none_from_not_some, object_there, odds, open_new_permit, or_false_left, overfills, overwritten, plain_filesystem, pwritten, raised, raised_if_changed, removing, root_attr, settled, task_called, with_change, with_copy, with_files, with_new, without_dead_filesystems, without_dead_in, without_dead_mounts, without_mounts_on, without_replaced}
 use Rattle.std.proofs.lemmas.List.Sums.{AllPass-from_list_all, list_all-from_AllPass}
 use Rattle.vt_spec.specs.declared.errors.Rule.TheVariants.{S2}
 use Rattle.vt_spec.proofs.Tables.{pwrite_rules}
@@ -206,7 +206,7 @@ fit_raised changed world conditions = record {
         by false = h
 
 fit_finished : (before : World ℕ) (name : TaskName) (changed : List ℕ) (outcome : Outcome ℕ) (b : Bool)
-    → IsFitWorld outcome.world → IsFitWorld (finished_by nat_eq b before name changed outcome).world
+    → IsFitWorld outcome.world → IsFitWorld (finished_unless nat_eq b before name changed outcome).world
 fit_finished before name changed outcome true conditions = conditions
 fit_finished before name changed outcome false conditions =
     alike_fit _ _ refl (fit_raised changed (settled nat_eq outcome.world) (fit_settled outcome.world conditions))

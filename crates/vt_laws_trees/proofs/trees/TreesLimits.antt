@@ -1,6 +1,6 @@
 -- No call breaks a limit of a task.
 use Rattle.std.proofs.Common.{arith, ◌≡◌, refl, ◌∙◌, true≢false, ℕ, nat_eq, nat_le, Bool, true, false, not, cond, List, [], ◌∷◌, length, map, ◌+◌, Option, Some, None, ok_or, Ok, find}
-use Rattle.vt_spec.proofs.Common.{Access, Call, Change, CopyUp, Fork, ForkWords, Fresh, Location, Mount, Outcome, Permit, Place, SetMark, Task, TaskName, ToOpen, TypeWord, World, all-filter, and_parts, apply, call_outcome, child_credentials, child_of, common_steps, deepest_first, deepest_name, denial, evens, finished_by, folded, is_within_limits, lazily_unmounted, linking, list_all, looks_of, making, most_descriptors, most_forks, mount_at, mount_numbered, mount_tree, moving, namespace_entered, namespaces_ended, new_file, none_is_not, object_there, odds, open_new_permit, or_parts, overfills, pivoted, pivoted_location, pivoted_task, pwritten, raised, raised_task, removing, replaced_if_called, same_name, task_called, tasks-taken_away, tasks-with_change, tasks-without_replaced, unmounted, unmounted_if_there, unshared, with_change, with_copy, with_descriptor, with_new, with_task, with_type, without_descriptor, without_mounts_on, without_replaced, without_task}
+use Rattle.vt_spec.proofs.Common.{Access, Call, Change, CopyUp, Fork, ForkWords, Fresh, Location, Mount, Outcome, Permit, Place, SetMark, Task, TaskName, ToOpen, TypeWord, World, all-filter, and_parts, apply, call_outcome, child_credentials, child_of, common_steps, deepest_first, deepest_name, denial, evens, finished_unless, folded, is_within_limits, lazily_unmounted, linking, list_all, looks_of, making, most_descriptors, most_forks, mount_at, mount_numbered, mount_tree, moving, namespace_entered, namespaces_ended, new_file, none_is_not, object_there, odds, open_new_permit, or_parts, overfills, pivoted, pivoted_location, pivoted_task, pwritten, raised, raised_task, removing, replaced_if_called, same_name, task_called, tasks-taken_away, tasks-with_change, tasks-without_replaced, unmounted, unmounted_if_there, unshared, with_change, with_copy, with_descriptor, with_new, with_task, with_type, without_descriptor, without_mounts_on, without_replaced, without_task}
 use Rattle.vt_spec.specs.declared.errors.Rule.TheVariants.{S2}
 use Rattle.vt_laws_trees.specs.Trees.Limits.{CallsKeepSmallTasks, HasSmallTasks, OpeningHasSmallTasks, names_few_groups}
 use Rattle.vt_laws_trees.proofs.trees.TreesTasks.{all_appended, all_mapped, child_within, closed_within, masked_within, opened_within, parent_within, replaced_within}
@@ -182,7 +182,7 @@ module _ (fresh : Fresh ℕ) (world : World ℕ) (task : Task ℕ) (small : HasS
       call_holds HasSmallTasks fresh world task call small (λ permit granted. granted_small call permit few granted)
 
 finished_small : (before : World ℕ) (name : TaskName) (changed : List ℕ) (outcome : Outcome ℕ) (b : Bool)
-    → HasSmallTasks outcome.world → HasSmallTasks (finished_by nat_eq b before name changed outcome).world
+    → HasSmallTasks outcome.world → HasSmallTasks (finished_unless nat_eq b before name changed outcome).world
 finished_small before name changed outcome true small = small
 finished_small before name changed outcome false small = all_mapped _ (raised_task name) keeps outcome.world.tasks small
   where

@@ -2,13 +2,12 @@
 -- has the one text of its script.
 use Rattle.std.specs.Prelude.{Bool, List, None, Some, [], false, nat_eq, true, ℕ, ◌++◌, ◌+◌, ◌<◌, ◌∷◌, ◌≡◌}
 use Rattle.vt_laws_rules.specs.Numbers.{Allotment, ServesWithRoom, is_in_hand}
-use Rattle.vt_spec.specs.Language.Calls.{Call}
 use Rattle.vt_spec.specs.Language.Script.{Grammar, lines_of}
 use Rattle.vt_spec.specs.Lists.{Fresh}
 use Rattle.vt_spec.specs.Machine.Run.{line_step, step_text, step_world, text_of}
 use Rattle.vt_spec.specs.Machine.SameWorlds.{SameWorlds}
 use Rattle.vt_spec.specs.Machine.World.{World, opening}
-use Rattle.vt_laws_trees.specs.Trees.Calls.{HasNoOverlays, mounts_overlay}
+use Rattle.vt_laws_trees.specs.Trees.Calls.{HasNoOverlays}
 
 -- An allotment of the numbers in hand, none of which is left over: so the same numbers are in hand after the line.
 pub record ServesInHand (in_hand : ℕ → Bool) (world : World ℕ) (allotment : Allotment) : Type 0 where
@@ -42,12 +41,6 @@ pub record LeavesEndless (in_hand : ℕ → Bool) : Type 0 where
 pub record OpensInHand (in_hand : ℕ → Bool) (fresh : Fresh ℕ) : Type 0 where
   pub given : (k : ℕ) → k < 4 → in_hand (fresh k) ≡ true
   pub apart : (j k : ℕ) → j < 4 → k < 4 → fresh j ≡ fresh k → j ≡ k
-
--- No line does, where the grammar has no such call.
-abbrev pub GrammarsKeepOverlaysOut : Type 0
-GrammarsKeepOverlaysOut =
-    (grammar : Grammar) → ((call : Call) → grammar.has call ≡ true → mounts_overlay call ≡ false)
-    → (lines : List (List ℕ)) → HasNoOverlays grammar lines
 
 -- So from any opening world whose numbers are in hand a script without overlays has its one text, whatever numbers of
 -- those in hand each line is handed.

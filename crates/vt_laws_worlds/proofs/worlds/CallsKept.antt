@@ -1,6 +1,6 @@
 -- Every call leaves a world: what is permitted fits, and each permit that fits keeps the invariants.
 use Rattle.std.proofs.Common.{◌≡◌, refl, sym, ap, subst, ◌∙◌, inr, ℕ, nat_eq, Bool, true, false, List, ◌++◌, ◌||◌, not, Option, Some, None, Result, Ok, Err, flat_map, is_ok, map, ok_or, true≢false}
-use Rattle.vt_spec.proofs.Common.{All-weaker, Answer, Call, Filesystem, ForksAreCounted, Fresh, HasOwnParents, IsTree, IsWorld, Judgement, ListsNumbers, MountInvariants, NamespaceInvariants, Outcome, Permit, Serves, Task, TaskName, World, after, apply, bytes_eq-Decides, call_outcome, denial, filesystems_changed_by, finished, finished_by, found_passes, is_among, is_within_limits, judge_in, none_from_not_some, not-true, numbers_in_use, only_looks, or_parts, policy, same_name, settled, task_called, used_by_filesystem, used_by_mount}
+use Rattle.vt_spec.proofs.Common.{All-weaker, Answer, Call, Filesystem, ForksAreCounted, Fresh, HasOwnParents, IsTree, IsWorld, Judgement, ListsNumbers, MountInvariants, NamespaceInvariants, Outcome, Permit, Serves, Task, TaskName, World, after, apply, bytes_eq-Decides, call_outcome, denial, filesystems_changed_by, finished, finished_unless, found_passes, is_among, is_within_limits, judge_in, none_from_not_some, not-true, numbers_in_use, only_looks, or_parts, policy, same_name, settled, task_called, used_by_filesystem, used_by_mount}
 use Rattle.vt_spec.specs.declared.errors.Deny.{Deny}
 use Rattle.vt_spec.specs.declared.errors.Rule.TheVariants.{S2}
 use Rattle.vt_laws_rules.proofs.judged.CallsJudged.{call_is_judged_then_applied}
@@ -126,7 +126,7 @@ module _ {world : World ℕ} {fresh : Fresh ℕ} {task : Task ℕ} (call : Call)
 
   -- and then what nothing uses goes, and numbers are raised
   finished_keeps : (name : TaskName) (changed : List ℕ)
-      → Kept (finished_by nat_eq false world name changed (call_outcome nat_eq fresh world task call)).world
+      → Kept (finished_unless nat_eq false world name changed (call_outcome nat_eq fresh world task call)).world
   finished_keeps name changed =
       let left = settling_leaves_a_world after_call unsettled in
       raising_numbers_keeps_world world name changed (settled nat_eq after_call) left.0 left.1
@@ -162,7 +162,7 @@ module _ {world : World ℕ} {fresh : Fresh ℕ} (name : TaskName) (call : Call)
       by true e = looking (only_looks call) refl e
         where
           same : policy nat_eq fresh world name call ≡ outcome
-          same = it_is ∙ ap (λ b. finished_by nat_eq b world name changed outcome) e
+          same = it_is ∙ ap (λ b. finished_unless nat_eq b world name changed outcome) e
 
           looking : (b : Bool) → only_looks call ≡ b → (b || not (is_ok outcome.answer)) ≡ true
               → Kept (policy nat_eq fresh world name call).world
@@ -171,7 +171,7 @@ module _ {world : World ℕ} {fresh : Fresh ℕ} (name : TaskName) (call : Call)
               refused outcome.answer (ap (λ (o : Outcome ℕ). o.answer) same) (not-true (is_ok outcome.answer) f)
       by false e = judged (judge_in nat_eq fresh world task call) refl
         where
-          same : policy nat_eq fresh world name call ≡ finished_by nat_eq false world name changed outcome
+          same : policy nat_eq fresh world name call ≡ finished_unless nat_eq false world name changed outcome
           same = cc (it_is, e)
 
           judged : (judgement : Judgement ℕ) → judge_in nat_eq fresh world task call ≡ judgement

@@ -3,10 +3,9 @@ use Rattle.std.proofs.Common.{◌≡◌, refl, ap, ◌∙◌, true≢false, arit
 use Rattle.vt_spec.proofs.Common.{Among, CopyUp, Fresh, IsWorld, Location, Mount, MountFlags, Namespace, Permit, Serves, Task, ToBind, ToChange, ToEnterNamespace, ToExit, ToMake, ToMountOverlay, ToMountPlain, ToMove, ToOpen, ToOpenNew, ToPivot, ToRemoveDirectory, ToRename, ToSetFlags, ToSetType, ToUnmount, ToUnmountLazily, ToUnshare, ToWritePart, TypeWord, World, among-append, among-append_right, among-from_map, among_from_list_all, among_numbers, apply, common_steps, copied_mount, evens, filter-append, has_too_many, is_among_numbers, is_copied_up, is_listed, length-map, most_mounts, mount_at, mount_numbered, mounts_of, named_mounts, namespace_entered, none_from_among, number-mount_in, numbers_by, odds, pivoted_mount, pwritten, replaced_if_same, retyped_mount, task_called, unshared, with_copy, with_new_groups, with_type, without_mounts_on, without_replaced, without_task}
 use Rattle.vt_laws_mounts.proofs.mounts.MountsReplaced.{found_itself}
 use Rattle.vt_laws_worlds.proofs.worlds.FewMounts.{Shrinks, StaysOrLeaves, change_shrinks, ended_few, few_of, lazily_shrinks, mapped_no_more, none_counted, not_too_many, regrouped_shrinks, shrinks_few, shrinks_itself, shrinks_then, taken_shrinks}
-use Rattle.vt_laws_mounts.specs.LettingGo.Ends.{is_in}
 use Rattle.vt_laws_trees.proofs.trees.TreesTasks.{called_there}
 use Rattle.vt_laws_rules.proofs.same.SameMany.{attaches}
-use Rattle.vt_laws_mounts.specs.Mounts.Ending.{count_in}
+use Rattle.vt_laws_mounts.specs.Mounts.Ending.{count_in, is_in}
 use Rattle.vt_laws_trees.proofs.trees.Lists.{length-filter_le}
 
 and_first : (a : Bool) → (a && true) ≡ true → a ≡ true

@@ -1,6 +1,6 @@
 -- What mounts show, and where they stand, stays there when mounts are taken away, changed or copied.
 use Rattle.std.proofs.Common.{◌≡◌, refl, sym, ap, subst, ◌∙◌, ⊎_elim, ℕ, nat_eq, eqb-true, eq-eqb, Bool, true, false, List, [], ◌∷◌, Option, Some, None, is_some, length, map, option_map, if◌then◌else◌, option_to_list}
-use Rattle.vt_spec.proofs.Common.{Among, Fresh, IsWorld, Location, Mount, MountFlags, Serves, Task, TypeWord, World, after_going, among-append, among-filter, among-from_filter, among-from_map, among_from_list_all, and_from, and_parts, copied_mount, deepest_first, detached, directory_is_there, evens, folded, has_its_root, holds_of, inheriting, is_directory_at, is_directory_node, lazily_unmounted, list_all, list_all_from_among, location_on_copy, mount_at, mount_numbered, mount_point_left, mount_point_of_parent, mount_tree, mounts_of, named_mounts, namespaces_ended, node_at, number-mount_in, numbers_by, odds, pivoted, pivoted_mount, replaced_if_same, same_Some, taken_away, unmounted, unmounted_if_there, unshared, with_mount, with_mounts, with_type}
+use Rattle.vt_spec.proofs.Common.{Among, Fresh, IsWorld, Location, Mount, MountFlags, Serves, Task, TypeWord, World, after_going, among-append, among-filter, among-from_filter, among-from_map, among_from_list_all, and_from, and_parts, copied_mount, deepest_first, detached, directory_is_there, evens, folded, has_its_root, holds_of, inheriting, is_directory_at, is_directory_node, lazily_unmounted, list_all, list_all_from_among, location_on_copy, mount_at, mount_numbered, inherited_mount_point, mount_point_of_parent, mount_tree, mounts_of, named_mounts, namespaces_ended, node_at, number-mount_in, numbers_by, odds, pivoted, pivoted_mount, replaced_if_same, same_Some, taken_away, unmounted, unmounted_if_there, unshared, with_mount, with_mounts, with_type}
 use Rattle.vt_laws_mounts.specs.Mounts.Attaching.{is_mount}
 use Rattle.vt_laws_mounts.proofs.Groups.{mounts-regrouped}
 use Rattle.vt_laws_mounts.proofs.mounts.MountsFound.{found_there}
@@ -92,19 +92,19 @@ module _ (world : World ℕ) (gone : List ℕ) (shows : AllShow world) where
       by true f = (shows (mount_at nat_eq world a) (found_there _ _ at.listed)).mount_point b f
       by false f = cc
 
-  left_is_place : (place : Location ℕ) → IsPlace world place → IsPlace world (mount_point_left nat_eq world gone place)
+  left_is_place : (place : Location ℕ) → IsPlace world place → IsPlace world (inherited_mount_point nat_eq world gone place)
   left_is_place place at = last_has _ _ step (length world.mounts) place place at
 
   going_shows : (mount : Mount ℕ) → ShowsWell world mount → ShowsWell world (after_going nat_eq world gone mount)
   going_shows mount well = by _
     where
       left : (o : Option (Location ℕ)) → mount.mount_point ≡ o → (at : Location ℕ)
-          → option_map (mount_point_left nat_eq world gone) o ≡ Some at → IsPlace world at
+          → option_map (inherited_mount_point nat_eq world gone) o ≡ Some at → IsPlace world at
       left None e at f = cc
       left (Some place) e at f = subst (IsPlace world) (cc) (left_is_place place (well.mount_point place e))
 
       by : (b : Bool) → ShowsWell world (if b then detached mount else
-          (record mount { mount_point = option_map (mount_point_left nat_eq world gone) mount.mount_point }))
+          (record mount { mount_point = option_map (inherited_mount_point nat_eq world gone) mount.mount_point }))
       by true = record { root = well.root; mount_point = λ at f. cc }
       by false = record { root = well.root; mount_point = λ at f. left _ refl at f }
 

@@ -1,6 +1,6 @@
 -- The groups that a line names are at most 32.
 use Rattle.std.proofs.Common.{arith, ◌≡◌, refl, ◌∙◌, ℕ, Bool, true, false, cond, List, [], ◌∷◌, Option, Some, None, option_map, codes, length, nat_le, bytes_eq}
-use Rattle.vt_spec.proofs.Common.{Access, Asking, Call, Calling, CapabilityWord, Creation, Fork, Grammar, Mkdir, MountOverlay, Nobody, One, OpenFile, Request, Someone, Two, Version, Who, asked_by, call_read, call_words, capabilities_word, common_steps, each_of, groups_word, identity_word, no_more, parts, path_word, raw_tokens, request_of, request_of_texts, then_some, token_text, when, word_then, ⊤}
+use Rattle.vt_spec.proofs.Common.{Access, Asking, Call, Calling, CapabilityWord, Creation, Fork, Grammar, Mkdir, MountOverlay, Nobody, One, OpenFile, Request, Someone, Two, Version, Who, asked_by, call_read, call_words, capabilities_word, common_steps, each_of, groups_word, identity_word, no_more, parts, path_word, raw_tokens, request_of, request_of_texts, then_some, token_text, word_then, ⊤}
 use Rattle.vt_spec.specs.Language.Script.{access_word, bytes_word, descriptor_word, flags_word, kept_or_identity, mode_word, offset_word, type_word, yes_or_no_word, attribute_words, chown_call, creation_words, descriptor_words, fork_words, may_have, mount_words, mounting_words, naming_words, second_words, task_words, who_of}
 use Rattle.vt_laws_trees.specs.Trees.Limits.{names_few_groups}
 
@@ -200,15 +200,10 @@ few_asked grammar (Some (Someone task)) (name ∷ words) = by _ _ (few_call gram
     read_few (MountOverlay path options given) = refl
     read_few call = refl
 
-    when_there : (b : Bool) (call : Call) → names_few_groups call ≡ true
-        → request_names_few (option_map (Calling task) (when b (call_read grammar.options call))) ≡ true
-    when_there true call h = read_few call ∙ h
-    when_there false call h = refl
-
-    by : (b : Bool) (o : Option Call) → Few o → request_names_few (cond b (option_map (Calling task) (then_some o
-        (λ call. when (grammar.has call) (call_read grammar.options call)))) None) ≡ true
+    by : (b : Bool) (o : Option Call) → Few o
+        → request_names_few (cond b (option_map (Calling task) (option_map (call_read grammar.options) o)) None) ≡ true
     by true None h = refl
-    by true (Some call) h = when_there (grammar.has call) call h.passes
+    by true (Some call) h = read_few call ∙ h.passes
     by false o h = refl
 few_asked grammar (Some Nobody) [] = refl
 few_asked grammar (Some Nobody) (name ∷ words) = grind (arith, common_steps)

@@ -9,14 +9,9 @@ use Rattle.vt_spec.specs.Machine.Settled.{is_mounted}
 use Rattle.vt_spec.specs.Machine.World.{Filesystem, Task, World, is_overlay}
 use Rattle.vt_laws_mounts.specs.Counts.BesideOverlays.{OverlaysHaveNoUpper}
 use Rattle.vt_laws_mounts.specs.Counts.OverlaysStay.{OverlaysAreNamed}
+use Rattle.vt_laws_trees.specs.Overlays.InOrder.{put_in}
 use Rattle.vt_laws_worlds.specs.OverlaysStay.Left.{MakesTheGreatest}
 use Rattle.vt_laws_worlds.specs.Permits.Left.{IsGiven, left_by}
-
--- a filesystem put in before the first one whose number is not smaller
-abbrev pub put_in : Filesystem ℕ → List (Filesystem ℕ) → List (Filesystem ℕ)
-put_in filesystem [] = filesystem ∷ []
-put_in filesystem (first ∷ rest) =
-    if nat_lt first.number filesystem.number then first ∷ put_in filesystem rest else filesystem ∷ first ∷ rest
 
 -- the plain ones with the overlays put in
 abbrev pub woven : List (Filesystem ℕ) → List (Filesystem ℕ) → List (Filesystem ℕ)

@@ -8,11 +8,11 @@ use Rattle.vt_spec.specs.Machine.Attach.{reaches}
 use Rattle.vt_spec.specs.Machine.Rules.Conditions.{is_elsewhere}
 use Rattle.vt_spec.specs.Machine.Rules.Mounting.{overlay_at}
 use Rattle.vt_spec.specs.Machine.World.{Namespace}
+use Rattle.vt_laws_mounts.specs.Mounts.Ending.{is_in, mount_count}
 use Rattle.vt_laws_rules.proofs.given.Ways.{calls_are_granted}
 use Rattle.vt_laws_rules.proofs.given.Ways.{IsGranted}
 use Rattle.vt_laws_rules.proofs.given.Ways.IsGranted.{binds, changes_type, mounts_overlayfs, mounts_tmpfs, moves_mount, unshares}
 use Rattle.vt_laws_mounts.proofs.mounts.Standing.{fewer_numbers}
-use Rattle.vt_laws_mounts.specs.LettingGo.Ends.{is_in, mount_count}
 use Rattle.vt_laws_mounts.specs.Mounts.Attaching.{is_mount, numbers_of}
 use Rattle.vt_laws_worlds.proofs.worlds.ReachedWalks.{directory_walk_end}
 use Rattle.vt_laws_later_calls.proofs.Common.{Ends, HereDirectory, found_there, source_walk_end, trees_have_each_once}

@@ -1,6 +1,6 @@
 -- An attachment without room is refused by M9, and one with room is granted, where no other rule refuses it.
 use Rattle.std.proofs.Common.{arith, ◌≡◌, refl, ap, subst, ◌∙◌, ℕ, nat_eq, Bool, true, false, [], ◌∷◌, ◌++◌, Some, Result, Ok, Err, length, drop, take}
-use Rattle.vt_spec.proofs.Common.{Bind, Call, Done, Fresh, Here, Judgement, MountPlain, MoveMount, Permit, Rules, Task, TaskName, ToBind, ToMountPlain, ToMove, World, and_then, answer-finished_by, apply, bind_rules, bind_tree, common_steps, denial, judge_in, judging, looks_of, move_rules, new_mount_rules, only_looks, overfills, policy, task_called, unless, walk_end}
+use Rattle.vt_spec.proofs.Common.{Bind, Call, Done, Fresh, Here, Judgement, MountPlain, MoveMount, Permit, Rules, Task, TaskName, ToBind, ToMountPlain, ToMove, World, and_then, answer-finished_unless, apply, bind_rules, bind_tree, common_steps, denial, judge_in, judging, looks_of, move_rules, new_mount_rules, only_looks, overfills, policy, task_called, unless, walk_end}
 use Rattle.vt_laws_later_calls.proofs.Common.{Deny, Ends, HereDirectory, K1, M9, destination_walk, is_mount, source_walk, source_walk_end}
 use Rattle.vt_laws_later_calls.specs.Limits.Room.{BindNeedsRoom, MoveNeedsRoom, NeedsRoom, NewMountNeedsRoom, lacks_room, lacks_room_for_moved, none_fails, tree_of}
 use Rattle.vt_laws_later_calls.proofs.limits.Outcomes.{policy_by_judgement, refused_call}
@@ -30,7 +30,7 @@ module _ {world : World ℕ} (fresh : Fresh ℕ) (name : TaskName) {task : Task 
       → none_fails (before ++ (false, M9) ∷ behind) ≡ true → (apply nat_eq fresh world task permit).answer ≡ Ok Done
       → NeedsRoom world (policy nat_eq fresh world name call) lacking
   answered_by_table permit before behind lacking judged none done =
-      grind (arith, common_steps, refused_call, m9_refuses, policy_by_judgement, none_refuses, answer-finished_by)
+      grind (arith, common_steps, refused_call, m9_refuses, policy_by_judgement, none_refuses, answer-finished_unless)
 
 -- a new mount
 pub new_mount_needs_room : NewMountNeedsRoom

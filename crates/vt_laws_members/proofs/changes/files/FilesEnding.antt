@@ -1,6 +1,6 @@
 -- An edit of a file on a plain filesystem ends in the part as in the world.
 use Rattle.std.proofs.Common.{arith, ◌≡◌, refl, sym, ap, subst, ◌∙◌, ℕ, nat_eq, true, false, List, [], ◌∷◌, Option, Some, None, Ok, filter, is_some, map, ◌||◌, IfOk}
-use Rattle.vt_spec.proofs.Common.{Among, Call, Change, Done, FileTree, Filesystem, Fresh, Location, Overlay, Task, TaskName, ToChange, World, changed_at, common_steps, filesystem_at, filesystem_changed, finished_by, granted, is_among, is_member_task, is_overlay, judge_in, mount_at, numbers_of_change, numbers_raised, part_of, policy, raised_task, settled, used_filesystems, with_change}
+use Rattle.vt_spec.proofs.Common.{Among, Call, Change, Done, FileTree, Filesystem, Fresh, Location, Overlay, Task, TaskName, ToChange, World, changed_at, common_steps, filesystem_at, filesystem_changed, finished_unless, granted, is_among, is_member_task, is_overlay, judge_in, mount_at, numbers_of_change, numbers_raised, part_of, policy, raised_task, settled, used_filesystems, with_change}
 use Rattle.vt_spec.specs.Language.Changes
 use Rattle.vt_laws_members.proofs.judging.Common.{IsLastingCall, caller_in, filesystem_alike, lasting, sealing_of, theirs_from, theirs_used}
 use Rattle.vt_laws_members.proofs.Common.{AllInUse, all_in_use, filter-map, same_members, same_used, with_filesystems}
@@ -42,7 +42,7 @@ module _ {world : World ℕ} {names : List TaskName} {name : TaskName} {call : C
       → run_by lasts.it w supply task (Ok (ToChange location change))
       ≡ granted Done (numbers_raised nat_eq w name (old.number ∷ [])
       (settled nat_eq (with_filesystems w (swap old files))))
-  changes_so w supply e = ap (λ b. finished_by nat_eq (b || false) w name (changed_at nat_eq w location)
+  changes_so w supply e = ap (λ b. finished_unless nat_eq (b || false) w name (changed_at nat_eq w location)
       (granted Done (with_change nat_eq supply w location change))) lasts.looks
       ∙ ap (λ f. granted Done (numbers_raised nat_eq w name (numbers_of_change nat_eq w f f.overlay)
       (settled nat_eq (filesystem_changed nat_eq supply w f f.overlay change)))) e

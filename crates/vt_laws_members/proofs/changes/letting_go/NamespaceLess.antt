@@ -1,6 +1,6 @@
 -- Where mounts of theirs are detached, and tasks and namespaces end, the tasks that are left see less.
 use Rattle.std.proofs.Common.{arith, ◌≡◌, refl, sym, ap, subst, ◌∙◌, ◌⊎◌, inl, inr, ⊎_elim, ℕ, nat_eq, Bool, true, false, cond, true≢false, List, [], ◌∷◌, Option, Some, None, filter, is_some, map, not, ◌||◌, eq-eqb, eqb-true, option_map, filter_map}
-use Rattle.vt_spec.proofs.Common.{cases_Bool, Among, IsWorld, Location, Mount, MountInvariants, Namespace, Task, TaskName, World, after_going, among-append, among-append_left, among-append_right, among-filter, among-flat_map, among-from_filter, among-from_flat_map, among-from_map, among-map, among_from_list_all, and_parts, any_among, any_from_among, common_steps, detached, holds_of, is_at, is_going, is_member_of, is_member_task, is_nowhere_or_attached, is_own_mount, is_private, list_any, locations, locations_of, members, mount_at, mount_numbered, mount_point_left, or_cases, or_left, or_right, outsiders, own_mounts, pair-map, part_of, roots_and_directories, seen_by_descriptor, then_some, used_directly, when}
+use Rattle.vt_spec.proofs.Common.{cases_Bool, Among, IsWorld, Location, Mount, MountInvariants, Namespace, Task, TaskName, World, after_going, among-append, among-append_left, among-append_right, among-filter, among-flat_map, among-from_filter, among-from_flat_map, among-from_map, among-map, among_from_list_all, and_parts, any_among, any_from_among, common_steps, detached, holds_of, is_at, is_going, is_member_of, is_member_task, is_nowhere_or_attached, is_own_mount, is_private, list_any, locations, locations_of, members, mount_at, mount_numbered, inherited_mount_point, or_cases, or_left, or_right, outsiders, own_mounts, pair-map, part_of, roots_and_directories, seen_by_descriptor, then_some, used_directly, when}
 use Rattle.vt_laws_members.proofs.Common.{OneNumberEach, filter_map_map, filter_map_same, found_itself, is_own, keep, kept_whole, member_group, numbered, shown_at, source_from_group}
 use Rattle.vt_laws_members.proofs.judging.Common.{IsGround, IsTheirs, directory_theirs, root_theirs, theirs_directly}
 use Rattle.vt_laws_members.proofs.changes.letting_go.Changed.{mount_under}
@@ -18,7 +18,7 @@ pub record KeepsShape (m y : Mount ℕ) : Type 0 where
 
 -- a mount after the event
 abbrev pub moved_mount : World ℕ → List ℕ → Mount ℕ → Mount ℕ
-moved_mount w gone m = record m { mount_point = option_map (mount_point_left nat_eq w gone) m.mount_point }
+moved_mount w gone m = record m { mount_point = option_map (inherited_mount_point nat_eq w gone) m.mount_point }
 
 abbrev pub ended_mount : Bool → World ℕ → World ℕ → List ℕ → Mount ℕ → Mount ℕ
 ended_mount b t w gone m = regrouped_mount b t (after_going nat_eq w gone m)
@@ -34,7 +34,7 @@ shape_kept b t w gone m = grind (arith, common_steps)
 pub placed_so : (b : Bool) (t w : World ℕ) (gone : List ℕ) (m : Mount ℕ)
     → (((ended_mount b t w gone m).namespace ≡ None) × ((ended_mount b t w gone m).mount_point ≡ None)
     × (is_going nat_eq gone m.number ≡ true)) ⊎ (((ended_mount b t w gone m).namespace ≡ m.namespace)
-    × ((ended_mount b t w gone m).mount_point ≡ option_map (mount_point_left nat_eq w gone) m.mount_point)
+    × ((ended_mount b t w gone m).mount_point ≡ option_map (inherited_mount_point nat_eq w gone) m.mount_point)
     × (is_going nat_eq gone m.number ≡ false))
 placed_so b t w gone m = grind (arith, common_steps)
 

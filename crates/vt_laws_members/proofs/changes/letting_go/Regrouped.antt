@@ -1,6 +1,6 @@
 -- Where mounts of a sealed set are detached, groups and masters are left in the part as in the world.
 use Rattle.std.proofs.Common.{arith, ◌≡◌, refl, sym, ap, ◌∙◌, inl, inr, ⊎_elim, ℕ, nat_eq, Bool, true, false, cond, true≢false, List, [], ◌∷◌, Option, Some, None, find, is_some, map, not, ◌||◌, ◌&&◌}
-use Rattle.vt_spec.proofs.Common.{cases_Bool, Among, HasLivingGroups, Location, Mount, Private, Propagation, Shared, Slave, TaskName, Unbindable, World, after_going, among-filter, among-from_filter, among-from_map, among-map, among_from_all, among_from_list_all, and_parts, any_among, any_from_among, common_steps, detached, false_from_ne_true, groups_up, has_members, heir, holds_of, inherited, inheriting, is_going, is_lost_group, is_member_of, is_nowhere_or_attached, is_own_mount, is_own_namespace, is_private, length-map, list_any, lost_a_group, members, mount_numbered, mount_point_left, mount_point_of_parent, none_is_some, other_mounts, own_mounts, part_of, regrouped_by, same_truth, shares_no_events, source_of, then_some}
+use Rattle.vt_spec.proofs.Common.{cases_Bool, Among, HasLivingGroups, Location, Mount, Private, Propagation, Shared, Slave, TaskName, Unbindable, World, after_going, among-filter, among-from_filter, among-from_map, among-map, among_from_all, among_from_list_all, and_parts, any_among, any_from_among, common_steps, detached, false_from_ne_true, groups_up, has_members, heir, holds_of, inherited, inheriting, is_going, is_lost_group, is_member_of, is_nowhere_or_attached, is_own_mount, is_own_namespace, is_private, length-map, list_any, lost_a_group, members, mount_numbered, inherited_mount_point, mount_point_of_parent, none_is_some, other_mounts, own_mounts, part_of, regrouped_by, same_truth, shares_no_events, source_of, then_some}
 use Rattle.vt_laws_members.proofs.Common.{cases_Option, IsSealed, OtherLives, is_own, member_group, members_of, none_hears, none_other, numbered, other_above, same_up, sides, source_from_group, start_hears}
 use Rattle.vt_laws_members.proofs.judging.Common.{IsTheirs, own_theirs, parent_theirs, same_mount, up_alike}
 use Rattle.vt_laws_members.proofs.changes.letting_go.Heard.{IsHeard, above_heard, apart, heard_by_own, master_same, own_in_part, part_source, private_source, up_heard}
@@ -224,7 +224,7 @@ module _ {world : World ℕ} {names : List TaskName} {gone : List ℕ} (go : The
 
   -- where a mount of theirs stands after
   left_alike : (l : Location ℕ) → IsTheirs world names go.is.mounts l.mount
-      → mount_point_left nat_eq part gone l ≡ mount_point_left nat_eq world gone l
+      → inherited_mount_point nat_eq part gone l ≡ inherited_mount_point nat_eq world gone l
   left_alike l theirs =
       cc (up_alike world names go.is.mounts (mount_point_of_parent nat_eq world gone)
       (mount_point_of_parent nat_eq part gone) above alike l theirs)

@@ -1,6 +1,6 @@
 -- A call of theirs that changes one plain tree, which they use alone, ends in the part as in the world.
 use Rattle.std.proofs.Common.{◌≡◌, ap, ◌∙◌, ⊎_elim, ℕ, nat_eq, false, true, List, [], ◌∷◌, Some, Ok, ◌||◌}
-use Rattle.vt_spec.proofs.Common.{Call, Change, Done, FileTree, Filesystem, Fresh, Location, Outcome, Task, TaskName, World, changed_at, filesystem_at, filesystem_changed, finished, finished_by, granted, is_among, is_overlay, mount_at, numbers_of_change, numbers_raised, only_looks, part_of, settled, task_called, used_alone, used_filesystems, with_change}
+use Rattle.vt_spec.proofs.Common.{Call, Change, Done, FileTree, Filesystem, Fresh, Location, Outcome, Task, TaskName, World, changed_at, filesystem_at, filesystem_changed, finished, finished_unless, granted, is_among, is_overlay, mount_at, numbers_of_change, numbers_raised, only_looks, part_of, settled, task_called, used_alone, used_filesystems, with_change}
 use Rattle.vt_spec.specs.Language.Changes
 use Rattle.vt_laws_members.proofs.judging.Common.{sealing_of}
 use Rattle.vt_laws_members.proofs.Common.{with_filesystems}
@@ -29,7 +29,7 @@ pub plain_run : (w : World ℕ) (name : TaskName) (call : Call) (supply : Fresh 
     (granted Done (with_change nat_eq supply w location change))
     ≡ with_tree w name old (Changes.changed nat_eq old.files change)
 plain_run w name call supply location change old looks e plain =
-    ap (λ b. finished_by nat_eq (b || false) w name (changed_at nat_eq w location)
+    ap (λ b. finished_unless nat_eq (b || false) w name (changed_at nat_eq w location)
     (granted Done (with_change nat_eq supply w location change))) looks
     ∙ ap (λ f. granted Done (numbers_raised nat_eq w name (numbers_of_change nat_eq w f f.overlay)
     (settled nat_eq (filesystem_changed nat_eq supply w f f.overlay change)))) e

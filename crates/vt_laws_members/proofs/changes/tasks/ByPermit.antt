@@ -1,6 +1,6 @@
 -- A call of theirs that ends in the part as in the world if it is granted does so if it is refused.
 use Rattle.std.proofs.Common.{inl, inr, ◌≡◌, refl, ap, subst, ◌∙◌, ℕ, nat_eq, true, false, [], List, Some, Ok, Err, ◌||◌, is_ok, IfOk}
-use Rattle.vt_spec.proofs.Common.{Call, Fresh, Judgement, Permit, Task, TaskName, World, denied, finished_by, judge_in, only_looks, task_called}
+use Rattle.vt_spec.proofs.Common.{Call, Fresh, Judgement, Permit, Task, TaskName, World, denied, finished_unless, judge_in, only_looks, task_called}
 use Rattle.vt_laws_members.specs.Changes.Changes.{EndsAlike, IsCallOfTheirs}
 use Rattle.vt_laws_members.proofs.changes.looks.Told.{ran}
 use Rattle.vt_laws_members.proofs.changes.tasks.Denied.{denial_ends_alike, run_by, unnamed_ends_alike}
@@ -22,7 +22,7 @@ module _ {world : World ℕ} {names : List TaskName} {name : TaskName} {call : C
       judged_by task called (Err deny) judged = denial_ends_alike it fresh other
           (ap (λ o. is_ok (ran name call world fresh o).answer) called
           ∙ ap (λ j. is_ok (run_by it world fresh task j).answer) judged
-          ∙ ap (λ b. is_ok (finished_by nat_eq (b || true) world name [] (denied world deny)).answer) looks)
+          ∙ ap (λ b. is_ok (finished_unless nat_eq (b || true) world name [] (denied world deny)).answer) looks)
 
   -- the same, with what is known of each permit
   pub by_known : (Known : (task : Task ℕ) → task_called world name ≡ Some task → Permit ℕ → Type 0)

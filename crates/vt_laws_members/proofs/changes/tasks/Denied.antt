@@ -1,6 +1,6 @@
 -- A call of theirs that is refused leaves their part, and is refused alike.
 use Rattle.std.proofs.Common.{inl, inr, arith, ◌≡◌, refl, sym, ap, ◌∙◌, ℕ, nat_eq, Bool, true, false, true≢false, not, List, Option, Some, None, Ok, Err, ◌||◌, is_ok}
-use Rattle.vt_spec.proofs.Common.{Call, Fresh, Judgement, Outcome, Permit, Task, TaskName, World, after, apply, common_steps, contains_from_among, denied, filesystems_changed_by, finished, finished_by, judge_in, members, only_looks, part_of, policy, task_called}
+use Rattle.vt_spec.proofs.Common.{Call, Fresh, Judgement, Outcome, Permit, Task, TaskName, World, after, apply, common_steps, contains_from_among, denied, filesystems_changed_by, finished, finished_unless, judge_in, members, only_looks, part_of, policy, task_called}
 use Rattle.vt_laws_members.proofs.Common.{cases_Option, Deny}
 use Rattle.vt_laws_members.proofs.judging.Common.{caller_in, members_are_judged_by_their_part, sealing_of}
 use Rattle.vt_laws_members.specs.Changes.Changes.{DenialsEndAlike, EndAlike, EndsAlike, IsCallOfTheirs, grown}
@@ -57,7 +57,7 @@ module _ {world : World ℕ} {names : List TaskName} {name : TaskName} {call : C
       → (run_by it w supply task j).answer ≡ (after w j (apply nat_eq supply w task)).answer
   answer_kept w supply task j = by (only_looks call || not (is_ok (after w j (apply nat_eq supply w task)).answer))
     where
-      by : (b : Bool) → (finished_by nat_eq b w name (filesystems_changed_by nat_eq w j)
+      by : (b : Bool) → (finished_unless nat_eq b w name (filesystems_changed_by nat_eq w j)
           (after w j (apply nat_eq supply w task))).answer ≡ (after w j (apply nat_eq supply w task)).answer
       by true = refl
       by false = refl

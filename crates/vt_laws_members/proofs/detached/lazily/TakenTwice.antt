@@ -1,7 +1,7 @@
 -- Mounts that are detached in two parts, one after the other: but for groups without members the world is the one from
 -- which all of them are detached at once.
 use Rattle.std.proofs.Common.{inl, inr, ◌≡◌, refl, sym, ap, subst, ◌∙◌, ℕ, zero, suc, arith, nat_eq, Bool, true, false, ◌||◌, List, [], ◌∷◌, ◌++◌, map, length, Option, None, Some, option_map, ◌≤◌, if◌then◌else◌}
-use Rattle.vt_spec.proofs.Common.{cases_Bool, Among, HasLivingGroups, Lives, Location, Mount, MountInvariants, Private, Propagation, Shared, Slave, Unbindable, World, after_going, among-from_map, among-map, among_from_all, common_steps, detached, group_of, has_master, has_members, has_no_master, heir, holds_of, inherited, inheriting, is_going, is_member_of, length-map, list_any-append, map_alike, map_twice, mount_at, mount_point_left, mount_point_of_parent, none_among, none_from_among, slave_of_heir, source_of, taken_away, without_dead_groups}
+use Rattle.vt_spec.proofs.Common.{cases_Bool, Among, HasLivingGroups, Lives, Location, Mount, MountInvariants, Private, Propagation, Shared, Slave, Unbindable, World, after_going, among-from_map, among-map, among_from_all, common_steps, detached, group_of, has_master, has_members, has_no_master, heir, holds_of, inherited, inheriting, is_going, is_member_of, length-map, list_any-append, map_alike, map_twice, mount_at, inherited_mount_point, mount_point_of_parent, none_among, none_from_among, slave_of_heir, source_of, taken_away, without_dead_groups}
 use Rattle.vt_laws_members.proofs.Common.{cases_Option, AllGroupsLive, AllStand, OneNumberEach, all_live, group-inherited, live_members, members-regrouped, mounts-regrouped, rank, rank_bounded, rank_child, taking_away_keeps_groups, tested_live}
 use Rattle.vt_laws_mounts.proofs.mounts.MountsFound.{number-mount_in}
 use Rattle.vt_laws_mounts.proofs.ends.Unmounting.{all_but_mounts, middle, number-after_going, numbers_taken, root_stays, staying_is_placed, taken}
@@ -128,8 +128,8 @@ module _ (world : World ℕ) (first second : List ℕ) where
 
     abbrev points_alike : Option (Location ℕ) → Type 0
     points_alike o =
-        option_map (mount_point_left nat_eq left second) (option_map (mount_point_left nat_eq world first) o)
-        ≡ option_map (mount_point_left nat_eq world (first ++ second)) o
+        option_map (inherited_mount_point nat_eq left second) (option_map (inherited_mount_point nat_eq world first) o)
+        ≡ option_map (inherited_mount_point nat_eq world (first ++ second)) o
 
     same_points : (o : Option (Location ℕ)) → points_alike o
     same_points None = refl
@@ -178,8 +178,8 @@ module _ (world : World ℕ) (first second : List ℕ) where
           let other = is_going nat_eq second mount.number in
           cc (
             twice_goes mount,
-            same_group one other (mount_point_left nat_eq world first) (mount_point_left nat_eq left second)
-                (mount_point_left nat_eq world (first ++ second)) mount,
+            same_group one other (inherited_mount_point nat_eq world first) (inherited_mount_point nat_eq left second)
+                (inherited_mount_point nat_eq world (first ++ second)) mount,
             goes_at_once mount.number,
           )
 
@@ -192,8 +192,8 @@ module _ (world : World ℕ) (first second : List ℕ) where
   ]
     where
       still : (one other : Bool) (mount : Mount ℕ)
-          → holds_of (nat_eq group) (group_if one (mount_point_left nat_eq world first) mount) ≡ false
-          → holds_of (nat_eq group) (group_if (one || other) (mount_point_left nat_eq world (first ++ second)) mount)
+          → holds_of (nat_eq group) (group_if one (inherited_mount_point nat_eq world first) mount) ≡ false
+          → holds_of (nat_eq group) (group_if (one || other) (inherited_mount_point nat_eq world (first ++ second)) mount)
           ≡ false
       still true other mount e = refl
       still false true mount e = refl
@@ -289,7 +289,7 @@ module _ (world : World ℕ) (first second : List ℕ) where
         members_at_first false e = cc (none_from_among (is_member_of nat_eq group) at_once.mounts
             (λ x m. let from = among-from_map (after_going nat_eq world (first ++ second)) world.mounts x m in
             ap (is_member_of nat_eq group) from.2 ∙ still (is_going nat_eq (first ++ second) from.0.number)
-            (mount_point_left nat_eq world (first ++ second)) from.0 (none_among (is_member_of nat_eq group)
+            (inherited_mount_point nat_eq world (first ++ second)) from.0 (none_among (is_member_of nat_eq group)
             world.mounts e from.0 from.1)))
 
         above : LivesAt group → SameHeir (world.master group)
@@ -298,9 +298,9 @@ module _ (world : World ℕ) (first second : List ℕ) where
 
   module _ (kept : MountInvariants nat_eq world) where
     mount_alike : (one other : Bool) (mount : Mount ℕ) → Among mount world.mounts
-        → inheriting nat_eq secondly (gone_if other (mount_point_left nat_eq left second)
-        (inheriting nat_eq firstly (gone_if one (mount_point_left nat_eq world first) mount)))
-        ≡ inheriting nat_eq at_once (gone_if (one || other) (mount_point_left nat_eq world (first ++ second)) mount)
+        → inheriting nat_eq secondly (gone_if other (inherited_mount_point nat_eq left second)
+        (inheriting nat_eq firstly (gone_if one (inherited_mount_point nat_eq world first) mount)))
+        ≡ inheriting nat_eq at_once (gone_if (one || other) (inherited_mount_point nat_eq world (first ++ second)) mount)
     mount_alike true true mount m = refl
     mount_alike true false mount m = refl
     mount_alike false true mount m = refl

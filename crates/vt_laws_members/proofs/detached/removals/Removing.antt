@@ -1,6 +1,6 @@
 -- A call of theirs that removes or replaces a directory, with the mounts on it, ends in the part as in the world.
 use Rattle.std.proofs.Common.{inl, inr, ◌≡◌, refl, sym, ap, ◌∙◌, ℕ, nat_eq, eqb-true, true, false, true≢false, List, [], ◌∷◌, Option, Some, None, Ok, ◌||◌, option_to_list}
-use Rattle.vt_spec.proofs.Common.{Among, Call, Change, Done, FileTree, Filesystem, Fresh, Location, Mount, MountInvariants, Outcome, Rename, TaskName, ToRename, World, and_parts, changed_at, filesystem_at, filesystem_changed, finished, finished_by, granted, holds_of, is_going, is_overlay, is_own_namespace, judge_in, list_all, members, mount_at, mounts_on, numbers_of_change, numbers_raised, only_looks, part_of, policy, settled, taken_away, used_alone, with_change, without_mounts_on}
+use Rattle.vt_spec.proofs.Common.{Among, Call, Change, Done, FileTree, Filesystem, Fresh, Location, Mount, MountInvariants, Outcome, Rename, TaskName, ToRename, World, and_parts, changed_at, filesystem_at, filesystem_changed, finished, finished_unless, granted, holds_of, is_going, is_overlay, is_own_namespace, judge_in, list_all, members, mount_at, mounts_on, numbers_of_change, numbers_raised, only_looks, part_of, policy, settled, taken_away, used_alone, with_change, without_mounts_on}
 use Rattle.vt_spec.specs.Language.Changes
 use Rattle.vt_laws_members.proofs.judging.Common.{IsTheirs, its_mount, sealing_of, theirs_from, theirs_used}
 use Rattle.vt_laws_members.proofs.Common.{cases_Option, is_own, points_keep_mounts, with_filesystems}
@@ -23,7 +23,7 @@ changes_tree : (before now : World ℕ) (name : TaskName) (call : Call) (supply 
     (granted Done (with_change nat_eq supply now location change))
     ≡ left_with before now name old (Changes.changed nat_eq old.files change)
 changes_tree before now name call supply location change old looks e plain =
-    ap (λ b. finished_by nat_eq (b || false) before name (changed_at nat_eq now location)
+    ap (λ b. finished_unless nat_eq (b || false) before name (changed_at nat_eq now location)
     (granted Done (with_change nat_eq supply now location change))) looks
     ∙ ap (λ f. granted Done (numbers_raised nat_eq before name (numbers_of_change nat_eq now f f.overlay)
     (settled nat_eq (filesystem_changed nat_eq supply now f f.overlay change)))) e

@@ -1,6 +1,6 @@
 -- Namespaces that end with their last tasks, in a world that was swept before, or that was not.
 use Rattle.std.proofs.Common.{arith, ◌≡◌, refl, sym, ap, subst, ◌∙◌, ⊎_elim, ℕ, nat_eq, Bool, true, false, true≢false, not, ◌&&◌, List, filter, flat_map, map, Option, Some, None, is_some, option_map, option_to_list}
-use Rattle.vt_spec.proofs.Common.{Location, Mount, MountInvariants, Namespace, Task, World, all_locations, cases_Bool, common_steps, filesystems-taken_away, has_tasks, is_going, is_in_ended, is_nowhere_or_attached, list_all, locations_of, mount_at, mount_in, mount_point_left, number-mount_in, pair-map, same_Some, same_name, settled, taken_away, without_task}
+use Rattle.vt_spec.proofs.Common.{Location, Mount, MountInvariants, Namespace, Task, World, all_locations, cases_Bool, common_steps, filesystems-taken_away, has_tasks, is_going, is_in_ended, is_nowhere_or_attached, list_all, locations_of, mount_at, mount_in, inherited_mount_point, number-mount_in, pair-map, same_Some, same_name, settled, taken_away, without_task}
 use Rattle.vt_laws_mounts.specs.LettingGo.Leaving.{MountsStand, comes_nowhere, is_location_among, stands_on_attached, with_tasks}
 use Rattle.vt_laws_mounts.specs.LettingGo.Mounting.{ended_mounts}
 use Rattle.vt_laws_mounts.specs.LettingGo.Several.{OneSweepForAllExits, OneSweepForAllExitsWithOverlays, OneSweepForEnds, OneSweepForEndsWithOverlays, OneSweepForExits, OneSweepForExitsWithOverlays, ended_task}
@@ -71,7 +71,7 @@ module _ (world : World ℕ) (tasks : List (Task ℕ)) (kept : MountInvariants n
           (among_from_list_all is_nowhere_or_attached world.mounts kept.nowhere mount m)) place p)
 
       left : (c : Bool) → (MountingTaken.change not_swept gone namespaces c mount).mount_point
-          ≡ option_map (mount_point_left nat_eq not_swept gone) mount.mount_point
+          ≡ option_map (inherited_mount_point nat_eq not_swept gone) mount.mount_point
       left true = ap (λ (x : Mount ℕ). x.mount_point) (stays_there not_swept gone namespaces mount isnt)
       left false = ap (λ (x : Mount ℕ). x.mount_point) (stays_there not_swept gone namespaces mount isnt)
 

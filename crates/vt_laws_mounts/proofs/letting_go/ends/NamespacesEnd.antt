@@ -1,12 +1,13 @@
 -- A namespace ends with its last task, and how many mounts a namespace has.
 use Rattle.std.proofs.Common.{◌≡◌, refl, sym, ap, ◌∙◌, ⊎_elim, ℕ, nat_eq, eqb-true, eq-eqb, Bool, true, false, not, ◌&&◌, ◌+◌, ◌++◌, ◌≤◌, List, [], ◌∷◌, filter, length, map, Option, Some, None, option_map, option_to_list, arith, nat_lt}
-use Rattle.vt_spec.proofs.Common.{Location, Mount, Namespace, World, after_going, and_parts, cases_Bool, common_steps, filter_alike, filter_all, has_tasks, holds_of, is_in_ended, is_listed, list_all, list_any, most_mounts, mount_point_left, mounts_of, nat_tests, or-false, or_false_left, regrouped, taken_away, with_mounts}
-use Rattle.vt_laws_mounts.specs.LettingGo.Ends.{AddedMountsCount, AddedMountsCountInNoOther, AddedMountsCountInTheirOwn, MountsAreListed, NoNamespaceEnds, OneNamespaceEnds, TooManyIsOfOne, TooManyIsOfSome, is_in, mount_count}
+use Rattle.vt_spec.proofs.Common.{Location, Mount, Namespace, World, after_going, and_parts, cases_Bool, common_steps, filter_alike, filter_all, has_tasks, holds_of, is_in_ended, is_listed, list_all, list_any, most_mounts, inherited_mount_point, mounts_of, nat_tests, or-false, or_false_left, regrouped, taken_away, with_mounts}
+use Rattle.vt_laws_mounts.specs.Mounts.Ending.{is_in, mount_count}
+use Rattle.vt_laws_mounts.specs.LettingGo.Ends.{AddedMountsCount, AddedMountsCountInNoOther, AddedMountsCountInTheirOwn, MountsAreListed, NoNamespaceEnds, OneNamespaceEnds, TooManyIsOfOne, TooManyIsOfSome}
 use Rattle.vt_laws_mounts.proofs.letting_go.Lists.{Among, among-from_map, among_from_list_all, among_numbers, any_among, any_from_among, map_same, none_among, none_from_among, nothing_passes}
 
 -- Where nothing is taken away, places stay.
 module _ (world : World ℕ) where
-  place_stays : (place : Location ℕ) → mount_point_left nat_eq world [] place ≡ place
+  place_stays : (place : Location ℕ) → inherited_mount_point nat_eq world [] place ≡ place
   place_stays place = grind (arith, common_steps)
 
   pub nothing_taken : taken_away nat_eq world [] ≡ regrouped nat_eq world
@@ -14,7 +15,7 @@ module _ (world : World ℕ) where
       (map_same (after_going nat_eq world []) world.mounts
       (λ mount m. ap (λ place. record mount { mount_point = place }) (same mount.mount_point)))
     where
-      same : (o : Option (Location ℕ)) → option_map (mount_point_left nat_eq world []) o ≡ o
+      same : (o : Option (Location ℕ)) → option_map (inherited_mount_point nat_eq world []) o ≡ o
       same None = refl
       same (Some place) = ap Some (place_stays place)
 

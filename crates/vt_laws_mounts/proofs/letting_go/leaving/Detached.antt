@@ -1,13 +1,13 @@
 -- What goes when a mount leaves its place.
 use Rattle.std.proofs.Common.{arith, ◌≡◌, refl, ap, ◌∙◌, ◌⊎◌, inl, ℕ, nat_eq, eqb-true, eq-eqb, Bool, true, false, cond, not, List, [], ◌∷◌, find, map, true≢false, Option, Some, None, option_to_list, unwrap_or}
-use Rattle.vt_spec.proofs.Common.{Location, Mount, World, after_going, and_parts, common_steps, going_at, going_from, has_child, is_shared, list_all, map_alike, mount_at, mount_in, mount_numbered, mount_point_left, no_mount, not-true, number-mount_in, regrouped, taken_away, unmounted, with_mounts}
+use Rattle.vt_spec.proofs.Common.{Location, Mount, World, after_going, and_parts, common_steps, going_at, going_from, has_child, is_shared, list_all, map_alike, mount_at, mount_in, mount_numbered, inherited_mount_point, no_mount, not-true, number-mount_in, regrouped, taken_away, unmounted, with_mounts}
 use Rattle.vt_laws_mounts.specs.LettingGo.Detaching.{StandsUnshared, UnmountIsOfOne, detached_if, without_place}
 use Rattle.vt_laws_mounts.proofs.letting_go.Lists.{Among, none_among}
 
 -- The unmount of one mount
 module _ (world : World ℕ) (number : ℕ) (alone : has_child nat_eq world number ≡ false) where
   stays_at : (place : Location ℕ) → nat_eq number place.mount ≡ false
-      → mount_point_left nat_eq world (number ∷ []) place ≡ place
+      → inherited_mount_point nat_eq world (number ∷ []) place ≡ place
   stays_at place other = grind (arith, common_steps, true≢false, eq-eqb, eqb-true)
 
   one_by_one : (mount : Mount ℕ) → Among mount world.mounts

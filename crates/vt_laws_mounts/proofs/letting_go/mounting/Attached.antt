@@ -1,6 +1,6 @@
 -- What mounts are after a tree of mounts is attached, and what they used.
 use Rattle.std.proofs.Common.{arith, ◌≡◌, refl, sym, ap, subst, ◌∙◌, ◌⊎◌, inl, inr, ⊎_elim, ℕ, nat_eq, append_assoc, eqb-true, eq-eqb, Bool, true, false, cond, ◌||◌, List, [], ◌∷◌, find, map, true≢false, flat_map, ◌++◌, Option, Some, None, is_some, option_map, option_to_list, unwrap_or, filter_map, map-id}
-use Rattle.vt_spec.proofs.Common.{Copies, Filesystem, Graft, Location, Mount, Twig, World, added_mounts, all_groups_made, attached_by, common_steps, copies_at, copy_at, false_from_ne_true, folded, graft_of, group_made, group_of, is_among, is_destination, is_member_of, is_nowhere_or_attached, list_all, list_any, map_twice, masters_with, mount_at, mount_in, mount_lives, mount_point_on_copy, no_mount, number-mount_in, parts_of, pushed_onto, pushed_up, receiver_stood_on, receivers_of, replaced_if_same, rest_of, same_location_is, stands_at, takes_part, twig_of, with_mount, with_moved_mounts}
+use Rattle.vt_spec.proofs.Common.{Copies, Filesystem, Graft, Location, Mount, Twig, World, added_mounts, all_groups_made, attached_by, common_steps, copies_at, copy_at, false_from_ne_true, folded, graft_of, group_made, group_of, is_among, is_destination, is_member_of, is_nowhere_or_attached, list_all, list_any, map_twice, masters_with, mount_at, mount_in, mount_lives, mount_point_on_copy, no_mount, number-mount_in, parts_of, pushed_onto, moved_onto_copy, receiver_stood_on, receivers_of, replaced_if_same, rest_of, same_location_is, stands_at, takes_part, twig_of, with_mount, with_moved_mounts}
 use Rattle.vt_laws_mounts.specs.LettingGo.InUse.{AllInUse, GroupsInUse}
 use Rattle.vt_laws_mounts.specs.LettingGo.Keeping.{LocationsStand}
 use Rattle.vt_laws_mounts.specs.LettingGo.Leaving.{MountsStand}
@@ -66,7 +66,7 @@ module _ (world : World ℕ) (filesystems : List (Filesystem ℕ)) (new : Copies
   after = attached_by nat_eq base new place moves origins
 
   abbrev push : Mount ℕ → Mount ℕ
-  push = pushed_up nat_eq base new tree parts
+  push = moved_onto_copy nat_eq base new tree parts
 
   -- a mount of the world where it moves, before what stands at receivers is pushed up
   abbrev went_by : Bool → Mount ℕ → Mount ℕ

@@ -1,6 +1,6 @@
 -- What goes when mounts are taken away.
 use Rattle.std.proofs.Common.{arith, ◌≡◌, refl, sym, ap, subst, ◌∙◌, inl, inr, ⊎_elim, ℕ, nat_eq, Bool, true, false, cond, ◌||◌, List, filter, map, Option, Some, is_some, option_map, true≢false}
-use Rattle.vt_spec.proofs.Common.{Location, Mount, Namespace, Private, Propagation, Shared, Slave, Unbindable, World, after_going, cases_Bool, common_steps, detached, heir, holds_of, inherited, inheriting, is_going, is_located, is_nowhere_or_attached, is_private, list_any, lost_a_group, map_twice, mount_in, mount_lives, mount_point_left, or_parts, regrouped_by, root_of, settled, taken_away, with_mounts}
+use Rattle.vt_spec.proofs.Common.{Location, Mount, Namespace, Private, Propagation, Shared, Slave, Unbindable, World, after_going, cases_Bool, common_steps, detached, heir, holds_of, inherited, inheriting, is_going, is_located, is_nowhere_or_attached, is_private, list_any, lost_a_group, map_twice, mount_in, mount_lives, inherited_mount_point, or_parts, regrouped_by, root_of, settled, taken_away, with_mounts}
 use Rattle.vt_laws_mounts.specs.LettingGo.InUse.{AllInUse}
 use Rattle.vt_laws_mounts.specs.LettingGo.Leaving.{IsSettledPlain, MountsStand}
 use Rattle.vt_laws_mounts.specs.LettingGo.Mounting.{EndingLetsGo, TakingAwayLetsGo, loses_its_place, places_lost, used_by_mounts}
@@ -32,7 +32,7 @@ module _ (world : World ℕ) (gone : List ℕ) (namespaces : List (Namespace ℕ
 
   -- what a mount shows stays
   same_part : {A : Type 0} (part : Mount ℕ → A) (mount : Mount ℕ) → part (detached mount) ≡ part mount
-      → part (record mount { mount_point = option_map (mount_point_left nat_eq world gone) mount.mount_point })
+      → part (record mount { mount_point = option_map (inherited_mount_point nat_eq world gone) mount.mount_point })
       ≡ part mount → part (after_going nat_eq world gone mount) ≡ part mount
   same_part part mount down up = grind (arith, common_steps)
 
@@ -56,10 +56,10 @@ module _ (world : World ℕ) (gone : List ℕ) (namespaces : List (Namespace ℕ
   -- a mount that does not go
   pub stays_there : (mount : Mount ℕ) → is_going nat_eq gone mount.number ≡ false
       → after_going nat_eq world gone mount ≡ record mount {
-        mount_point = option_map (mount_point_left nat_eq world gone) mount.mount_point;
+        mount_point = option_map (inherited_mount_point nat_eq world gone) mount.mount_point;
       }
   stays_there mount isnt = ap (λ c. cond c (detached mount)
-      (record mount { mount_point = option_map (mount_point_left nat_eq world gone) mount.mount_point })) isnt
+      (record mount { mount_point = option_map (inherited_mount_point nat_eq world gone) mount.mount_point })) isnt
 
   pub same_namespace : (b : Bool) (mount : Mount ℕ) → is_going nat_eq gone mount.number ≡ false
       → (change b mount).namespace ≡ mount.namespace
@@ -67,7 +67,7 @@ module _ (world : World ℕ) (gone : List ℕ) (namespaces : List (Namespace ℕ
   same_namespace false mount isnt = ap (λ m. m.namespace) (stays_there mount isnt)
 
   stays_at : (place : Location ℕ) → is_going nat_eq gone place.mount ≡ false
-      → mount_point_left nat_eq world gone place ≡ place
+      → inherited_mount_point nat_eq world gone place ≡ place
   stays_at place isnt = grind (arith, common_steps)
 
   pub same_place : (b : Bool) (mount : Mount ℕ) (place : Location ℕ) → mount.mount_point ≡ Some place

@@ -1,7 +1,7 @@
 -- Mounts are taken away from a world that was swept before, or that was not: after the sweep that follows the two
 -- worlds are one.
 use Rattle.std.proofs.Common.{◌≡◌, refl, sym, ap, subst, ◌∙◌, ℕ, zero, suc, nat_eq, Bool, true, false, cond, not, ◌||◌, List, filter, length, map, true≢false, Option, Some, None, is_some, option_map, arith}
-use Rattle.vt_spec.proofs.Common.{HasLivingGroups, Location, Mount, MountInvariants, Namespace, Private, Propagation, Shared, Slave, Stands, Task, Unbindable, World, after_going, at_root, chain, chain_ends, chain_goes_on, common_steps, cond-None, detached, has_master, has_members, has_no_master, heir, inherited, is_going, is_lost_group, is_member_of, is_nowhere_or_attached, is_private, last_of_chain, last_or, length-map, list_any, lost_a_group, map_alike, mount_in, mount_lives, mount_point_left, mount_point_of_parent, on_parent, settled, slave_of_heir, source_of, taken_away, then_some}
+use Rattle.vt_spec.proofs.Common.{HasLivingGroups, Location, Mount, MountInvariants, Namespace, Private, Propagation, Shared, Slave, Stands, Task, Unbindable, World, after_going, at_root, chain, chain_ends, chain_goes_on, common_steps, cond-None, detached, has_master, has_members, has_no_master, heir, inherited, is_going, is_lost_group, is_member_of, is_nowhere_or_attached, is_private, last_of_chain, last_or, length-map, list_any, lost_a_group, map_alike, mount_in, mount_lives, inherited_mount_point, mount_point_of_parent, on_parent, settled, slave_of_heir, source_of, taken_away, then_some}
 use Rattle.vt_laws_mounts.specs.LettingGo.InUse.{HasTrees, UppersArePlain}
 use Rattle.vt_laws_mounts.specs.LettingGo.Leaving.{MountsStand, comes_nowhere, with_tasks}
 use Rattle.vt_laws_mounts.specs.LettingGo.Overlays.{RealsAreThere}
@@ -59,7 +59,7 @@ module _ (world : World ℕ) (tasks : List (Task ℕ)) (namespaces : List (Names
       grind (arith, common_steps, same, ends, goes_on, same_found, number_there, way_down below.mount rest below refl)
 
   same_left : (place : Location ℕ) → IsAttached place.mount
-      → mount_point_left nat_eq swept gone place ≡ mount_point_left nat_eq not_swept gone place
+      → inherited_mount_point nat_eq swept gone place ≡ inherited_mount_point nat_eq not_swept gone place
   same_left place attached =
       let many : length numbers ≡ length first_mounts = length-map first_mounts (λ (mount : Mount ℕ). mount.number)
       in grind (
@@ -77,14 +77,14 @@ module _ (world : World ℕ) (tasks : List (Task ℕ)) (namespaces : List (Names
   going_alike mount m = by (is_going nat_eq gone mount.number)
     where
       points : (o : Option (Location ℕ)) → mount.mount_point ≡ o
-          → option_map (mount_point_left nat_eq swept gone) o ≡ option_map (mount_point_left nat_eq not_swept gone) o
+          → option_map (inherited_mount_point nat_eq swept gone) o ≡ option_map (inherited_mount_point nat_eq not_swept gone) o
       points None e = refl
       points (Some place) e = ap Some (same_left place (place_attached world (mounts_stand world kept) mount m place e))
 
       by : (b : Bool) → cond b (detached mount) (record mount {
-        mount_point = option_map (mount_point_left nat_eq swept gone) mount.mount_point;
+        mount_point = option_map (inherited_mount_point nat_eq swept gone) mount.mount_point;
       }) ≡ cond b (detached mount) (record mount {
-        mount_point = option_map (mount_point_left nat_eq not_swept gone) mount.mount_point;
+        mount_point = option_map (inherited_mount_point nat_eq not_swept gone) mount.mount_point;
       })
       by true = refl
       by false = ap (λ point. record mount { mount_point = point }) (points _ refl)
@@ -135,7 +135,7 @@ module _ (world : World ℕ) (tasks : List (Task ℕ)) (namespaces : List (Names
   source_then mount m = by (is_going nat_eq gone mount.number)
     where
       by : (b : Bool) → HasLivingSource (cond b (detached mount) (record mount {
-        mount_point = option_map (mount_point_left nat_eq not_swept gone) mount.mount_point;
+        mount_point = option_map (inherited_mount_point nat_eq not_swept gone) mount.mount_point;
       })).propagation
       by true group e = cc
       by false group e = among_from_all (HasLivingGroups nat_eq world) world.mounts kept.groups mount m group e
@@ -255,7 +255,7 @@ module _ (world : World ℕ) (tasks : List (Task ℕ)) (namespaces : List (Names
       same false = refl
 
       by : (b : Bool) (o : Option (Location ℕ)) → mount.mount_point ≡ o → (cond b (detached mount) (record mount {
-        mount_point = option_map (mount_point_left nat_eq not_swept gone) o;
+        mount_point = option_map (inherited_mount_point nat_eq not_swept gone) o;
       })).mount_point ≡ Some place → Stood place
       by true o e f = cc
       by false None e f = cc

@@ -1,6 +1,6 @@
 -- The attachment of one mount: the mounts that were there, some of them moved onto copies, and a copy on each part.
 use Rattle.std.proofs.Common.{List, None, Option, Some, cond, eqb-true, false, find, flat_map, inl, inr, map, nat_eq, option_map, refl, sym, true, zero, ℕ, ⊎_elim, ◌++◌, ◌∷◌, ◌≡◌, [], ap, ◌∙◌}
-use Rattle.vt_spec.proofs.Common.{Among, Copies, Filesystem, Fresh, Graft, Location, Mount, MountFlags, MountInvariants, Serves, Shared, World, among-append, among-filter, among-from_flat_map, among-from_map, among_from_contains, bound, chain_ends, child_at, contains_from_among, false_from_ne_true, graft_of, mount_at, mount_numbered, new_mount, number-mount_in, parts_of, pushed_onto, pushed_up, receives, rest_of, root_of, stands_at, takes_part, topmost, with_new_filesystem}
+use Rattle.vt_spec.proofs.Common.{Among, Copies, Filesystem, Fresh, Graft, Location, Mount, MountFlags, MountInvariants, Serves, Shared, World, among-append, among-filter, among-from_flat_map, among-from_map, among_from_contains, bound, chain_ends, child_at, contains_from_among, false_from_ne_true, graft_of, mount_at, mount_numbered, new_mount, number-mount_in, parts_of, pushed_onto, moved_onto_copy, receives, rest_of, root_of, stands_at, takes_part, topmost, with_new_filesystem}
 use Rattle.vt_laws_mounts.specs.Mounts.Attaching.{KeepsAllButMountPoint, OneNumberAMount, is_mount}
 use Rattle.vt_laws_mounts.specs.Mounts.MountPoints.{OneMountAMountPoint}
 use Rattle.vt_laws_mounts.specs.Mounts.Propagation.{Attachment, CanAttach, IsOfTree, IsPart, copy_of, number_at, world_after}
@@ -109,7 +109,7 @@ module _ {world : World ℕ} {fresh : Fresh ℕ} {place : Location ℕ} {first :
 
   -- a mount as it is afterwards, if it was there
   unfoldable pub moved : Mount ℕ → Mount ℕ
-  moved = pushed_up nat_eq world supply tree parts
+  moved = moved_onto_copy nat_eq world supply tree parts
 
   pub groups_live : GroupsLive after
   unfolding world_with

@@ -1,6 +1,6 @@
 -- What settling and raising leave of inodes: each is as it was, or gone.
 use Rattle.std.proofs.Common.{arith, ◌≡◌, refl, sym, subst, true≢false, ℕ, nat_eq, eqb-true, Bool, true, false, cond, ◌||◌, List, [], ◌∷◌, map, filter, find, Option, Some, None, unwrap_or, Ok, Err, ok_or}
-use Rattle.vt_spec.proofs.Common.{Call, Filesystem, Fresh, Judgement, Node, Permit, Task, TaskName, World, after, apply, common_steps, denial, denied, filesystem_lives, filesystems_changed_by, filesystems_raised, finished, finished_by, is_overlay, judge_in, no_filesystem, number-only_used, only_looks, only_used, only_used_by, policy, settled, task_called, used_in, without_dead_filesystems, without_dead_in, without_dead_mounts}
+use Rattle.vt_spec.proofs.Common.{Call, Filesystem, Fresh, Judgement, Node, Permit, Task, TaskName, World, after, apply, common_steps, denial, denied, filesystem_lives, filesystems_changed_by, filesystems_raised, finished, finished_unless, is_overlay, judge_in, no_filesystem, number-only_used, only_looks, only_used, only_used_by, policy, settled, task_called, used_in, without_dead_filesystems, without_dead_in, without_dead_mounts}
 use Rattle.vt_laws_rules.proofs.judged.CallsJudged.{policy_judges_then_applies}
 use Rattle.vt_spec.specs.declared.errors.Rule.TheVariants.{S2}
 use Rattle.vt_laws_trees.proofs.trees.TreesOfWorlds.{numbered}
@@ -104,7 +104,7 @@ module _ (Q : Inode → Type 0) (number inode : ℕ) where
               left : HoldsIn (apply nat_eq fresh world task permit).world.filesystems
               left = done task permit is judged
 
-              by_looks : (b : Bool) → HoldsIn (finished_by nat_eq b world name changed
+              by_looks : (b : Bool) → HoldsIn (finished_unless nat_eq b world name changed
                   (apply nat_eq fresh world task permit)).world.filesystems
               by_looks true = left
               by_looks false = raised_holds changed (settled nat_eq (apply nat_eq fresh world task permit).world)
@@ -112,7 +112,7 @@ module _ (Q : Inode → Type 0) (number inode : ℕ) where
           by_permit changed task is (Err deny) judged = by_looks (only_looks call)
             where
               by_looks : (b : Bool)
-                  → HoldsIn (finished_by nat_eq (b || true) world name changed (denied world deny)).world.filesystems
+                  → HoldsIn (finished_unless nat_eq (b || true) world name changed (denied world deny)).world.filesystems
               by_looks true = same
               by_looks false = same
 

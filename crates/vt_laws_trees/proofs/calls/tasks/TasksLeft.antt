@@ -1,6 +1,6 @@
 -- The tasks that each permit leaves, and that settling and raising leave of them.
 use Rattle.std.proofs.Common.{arith, ◌≡◌, refl, sym, subst, ℕ, ◌+◌, nat_eq, Bool, true, false, not, ◌||◌, List, [], ◌∷◌, ◌++◌, map, filter, Option, Some, None, unwrap_or, Ok, Err, ok_or}
-use Rattle.vt_spec.proofs.Common.{Call, Fresh, Judgement, Permit, Task, TaskName, ToChange, ToClose, ToEnterNamespace, ToExit, ToFork, ToMake, ToOpen, ToOpenNew, ToPivot, ToRemoveDirectory, ToRename, ToSetCredentials, ToSetDirectory, ToSetRoot, ToSetType, ToSetUmask, ToUnmount, ToUnmountLazily, ToUnshare, ToWritePart, World, after, apply, child_of, common_steps, denial, denied, entered_at, evens, filesystems_changed_by, finished, finished_by, judge_in, mount_at, mount_numbered, mounts_of, namespace_entered, namespace_root, numbers_by, odds, only_looks, pivoted_task, policy, raised_task, replaced_if_called, same_name, task_called, tasks-taken_away, tasks-with_change, tasks-without_replaced, unshared, unshared_task, with_descriptor, without_descriptor, without_task}
+use Rattle.vt_spec.proofs.Common.{Call, Fresh, Judgement, Permit, Task, TaskName, ToChange, ToClose, ToEnterNamespace, ToExit, ToFork, ToMake, ToOpen, ToOpenNew, ToPivot, ToRemoveDirectory, ToRename, ToSetCredentials, ToSetDirectory, ToSetRoot, ToSetType, ToSetUmask, ToUnmount, ToUnmountLazily, ToUnshare, ToWritePart, World, after, apply, child_of, common_steps, denial, denied, entered_at, evens, filesystems_changed_by, finished, finished_unless, judge_in, mount_at, mount_numbered, mounts_of, namespace_entered, namespace_root, numbers_by, odds, only_looks, pivoted_task, policy, raised_task, replaced_if_called, same_name, task_called, tasks-taken_away, tasks-with_change, tasks-without_replaced, unshared, unshared_task, with_descriptor, without_descriptor, without_task}
 use Rattle.vt_laws_rules.proofs.judged.CallsJudged.{policy_judges_then_applies}
 use Rattle.vt_spec.specs.declared.errors.Rule.TheVariants.{S2}
 use Rattle.vt_laws_trees.proofs.trees.TreesLimits.{lazily_tasks, typed_tasks}
@@ -80,12 +80,12 @@ tasks_after_call P fresh world name call same done =
         left = tasks_left fresh world task permit
 
         by_looks : (b : Bool)
-            → P (finished_by nat_eq b world name changed (apply nat_eq fresh world task permit)).world.tasks
+            → P (finished_unless nat_eq b world name changed (apply nat_eq fresh world task permit)).world.tasks
         by_looks true = subst P (sym left) (done task permit is judged).0
         by_looks false = subst (λ tasks. P (map (raised_task name) tasks)) (sym left) (done task permit is judged).1
     by_permit changed task is (Err deny) judged = by_looks (only_looks call)
       where
-        by_looks : (b : Bool) → P (finished_by nat_eq (b || true) world name changed (denied world deny)).world.tasks
+        by_looks : (b : Bool) → P (finished_unless nat_eq (b || true) world name changed (denied world deny)).world.tasks
         by_looks true = same
         by_looks false = same
 

@@ -1,6 +1,6 @@
 -- The layers of a newly mounted overlay lie apart from those of live ones, and what lies under a layer is as it was.
 use Rattle.std.proofs.Common.{arith, ◌≡◌, inl, inr, refl, sym, ap, ◌∙◌, true≢false, ℕ, nat_eq, eqb-true, Bool, true, false, cond, not, ◌&&◌, ◌||◌, List, [], ◌∷◌, ◌++◌, map, Option, Some, None, is_some, unwrap_or, find, option_to_list}
-use Rattle.vt_spec.proofs.Common.{Filesystem, Fresh, IsTree, IsWorld, Layer, ListsNumbers, Lower, Overlay, Real, Upper, World, and_true_left, and_true_right, common_steps, counts_in_layer, evens, filesystem_numbered, filter-append, holds_of, is_among, is_directory_node, is_directory_under, is_file_under, is_overlay, is_plain_layer, is_real_upper, is_under, led, lies_in_layer, lies_or_counts_under, list_all, list_any, list_any-append, no_filesystem, none_is_some, odds-distinct, overlaps_one_of, overlay_filesystem, overlays, real_of, same_Some, upper_real, with_new_filesystem}
+use Rattle.vt_spec.proofs.Common.{Filesystem, Fresh, IsTree, IsWorld, Layer, ListsNumbers, Lower, Overlay, Real, Upper, World, and_true_left, and_true_right, common_steps, counts_as_in_layer, evens, filesystem_numbered, filter-append, holds_of, is_among, is_directory_node, is_directory_under, is_file_under, is_overlay, is_plain_layer, is_real_upper, is_under, led, lies_in_layer, lies_or_counts_under, list_all, list_any, list_any-append, no_filesystem, none_is_some, odds-distinct, overlaps_one_of, overlay_filesystem, overlays, real_of, same_Some, upper_real, with_new_filesystem}
 use Rattle.vt_laws_trees.specs.Layers.Layers.Mounted.{AreLayers}
 use Rattle.vt_laws_trees.proofs.layers.directories.Lower.{led_below}
 use Rattle.vt_laws_trees.proofs.layers.layers.ShownMerged.{inodes}
@@ -76,7 +76,7 @@ module _ (world : World ℕ) (conditions : IsWorld nat_eq world) (overlay : Over
   lies_same fs object layer old = grind (arith, common_steps, same_filesystem, eqb-true)
 
   counts_same : (fs object : ℕ) (layer : Layer ℕ) → IsOld layer → (merged : Filesystem ℕ)
-      → counts_in_layer nat_eq later fs object layer merged ≡ counts_in_layer nat_eq world fs object layer merged
+      → counts_as_in_layer nat_eq later fs object layer merged ≡ counts_as_in_layer nat_eq world fs object layer merged
   counts_same fs object layer old merged = grind (arith, common_steps, lies_same)
 
   -- what is an object of the new overlay lies under its upper directory, and so where that lies
@@ -100,7 +100,7 @@ module _ (world : World ℕ) (conditions : IsWorld nat_eq world) (overlay : Over
       grind (arith, common_steps, are_open, bounded, odds-distinct, same_Some, none_is_some)
 
   new_counts : (fs object : ℕ) (layer : Layer ℕ) → IsOld layer
-      → counts_in_layer nat_eq later fs object layer new ≡ true → lies_in_layer nat_eq world fs object layer ≡ true
+      → counts_as_in_layer nat_eq later fs object layer new ≡ true → lies_in_layer nat_eq world fs object layer ≡ true
   new_counts fs object layer old e =
       by overlay.upper refl (and_true_left _ _ e) (and_true_left _ _ (and_true_right _ _ e))
       (and_true_right _ _ (and_true_right _ _ e))
@@ -144,7 +144,7 @@ module _ (world : World ℕ) (conditions : IsWorld nat_eq world) (overlay : Over
       cc (
         lies_same fs object layer old,
         overlays_later,
-        list_any-append (counts_in_layer nat_eq later fs object layer) (overlays world) (new ∷ []),
+        list_any-append (counts_as_in_layer nat_eq later fs object layer) (overlays world) (new ∷ []),
         any_same _ _ (overlays world) (λ merged among. counts_same fs object layer old merged),
         absorbed (lies_in_layer nat_eq world fs object layer) _ _ (new_counts fs object layer old),
       )

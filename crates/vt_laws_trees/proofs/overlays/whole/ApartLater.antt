@@ -1,6 +1,6 @@
 -- Layers stand apart after a change of an overlay.
 use Rattle.std.proofs.Common.{arith, ◌≡◌, ◌≢◌, refl, sym, ap, subst, ◌∙◌, true≢false, eqb-true, eq-eqb, ◌⊎◌, ⊎_elim, inl, inr, ℕ, nat_eq, Bool, true, false, not, cond, ◌&&◌, ◌||◌, List, [], ◌∷◌, ◌++◌, map, Option, Some, None, is_some, flat_map, option_to_list}
-use Rattle.vt_spec.proofs.Common.{Among, Change, Filesystem, Fresh, IsTree, Layer, Location, Merge, Overlay, Real, Stack, Upper, World, among-append_left, among-append_right, among-filter, among-flat_map, among-from_filter, among-from_flat_map, among-from_map, among_from_list_all, and_from, and_true_left, and_true_right, any_among, any_from_among, any_pair, common_steps, counts_in_layer, directory_used, entry_at, eqb_tells, filesystem_numbered, is_directory_node, is_overlay, is_plain_layer, is_under, layers_of, layers_of_all, led, lies_in_layer, lies_or_counts_under, list_any, live_lowers, live_upper_and_work, mount_at, none_among, none_from_among, none_is_some, of_overlay, or_cases, or_false_alone, or_left, overlap, overlaps_one_of, overlay_or, overlays, replaced_if_numbered, same_Some, stack_of, upper_and_work, with_change}
+use Rattle.vt_spec.proofs.Common.{Among, Change, Filesystem, Fresh, IsTree, Layer, Location, Merge, Overlay, Real, Stack, Upper, World, among-append_left, among-append_right, among-filter, among-flat_map, among-from_filter, among-from_flat_map, among-from_map, among_from_list_all, and_from, and_true_left, and_true_right, any_among, any_from_among, any_pair, common_steps, counts_as_in_layer, directory_used, entry_at, eqb_tells, filesystem_numbered, is_directory_node, is_overlay, is_plain_layer, is_under, layers_of, layers_of_all, led, lies_in_layer, lies_or_counts_under, list_any, live_lowers, live_upper_and_work, mount_at, none_among, none_from_among, none_is_some, of_overlay, or_cases, or_false_alone, or_left, overlap, overlaps_one_of, overlay_or, overlays, replaced_if_numbered, same_Some, stack_of, upper_and_work, with_change}
 use Rattle.vt_laws_trees.specs.Layers.Layers.Locked.{LeadsAsBefore}
 use Rattle.vt_laws_trees.specs.Layers.Layers.Upper.{IsUpperObject}
 use Rattle.vt_laws_trees.proofs.layers.locked.Apart.{layer_among, layer_plain, lies_there, never_both, no_overlay_in, object_counts, upper_in_layers, upper_is_layer}
@@ -315,13 +315,13 @@ module _ {fresh : Fresh ℕ} {world : World ℕ} {location : Location ℕ} {chan
       ⊎_elim (λ f. lies_first layer n object (other_lies layer other n object f)) counted
       (or_cases (lies_in_layer nat_eq later n object layer) _ e)
     where
-      found_of : (g : Filesystem ℕ) × Among g (overlays later) × (counts_in_layer nat_eq later n object layer g ≡ true)
+      found_of : (g : Filesystem ℕ) × Among g (overlays later) × (counts_as_in_layer nat_eq later n object layer g ≡ true)
           → Lies layer n object
       found_of (g, m, f) =
           counted_other layer other n object g (counts_parts later layer n object g f) (overlay_then g m)
 
-      counted : list_any (counts_in_layer nat_eq later n object layer) (overlays later) ≡ true → Lies layer n object
-      counted f = found_of (any_among (counts_in_layer nat_eq later n object layer) (overlays later) f)
+      counted : list_any (counts_as_in_layer nat_eq later n object layer) (overlays later) ≡ true → Lies layer n object
+      counted f = found_of (any_among (counts_as_in_layer nat_eq later n object layer) (overlays later) f)
 
   pub same_layer : (a b : Layer ℕ) → (a ≡ b) ⊎ (a ≢ b)
   same_layer a b = ⊎_elim (λ f. ⊎_elim (λ d. inl (λ i. record { filesystem = f.1 i; directory = d.1 i }))
@@ -365,13 +365,13 @@ module _ {fresh : Fresh ℕ} {world : World ℕ} {location : Location ℕ} {chan
   later_upper n object e =
       ⊎_elim (λ f. upper_lies n object f) counted (or_cases (lies_in_layer nat_eq later n object upper) _ e)
     where
-      found_of : (g : Filesystem ℕ) × Among g (overlays later) × (counts_in_layer nat_eq later n object upper g ≡ true)
+      found_of : (g : Filesystem ℕ) × Among g (overlays later) × (counts_as_in_layer nat_eq later n object upper g ≡ true)
           → Lies upper n object ⊎ IsNewBy fresh object
       found_of (g, m, f) = counted_upper n object g (counts_parts later upper n object g f) (overlay_then g m)
 
-      counted : list_any (counts_in_layer nat_eq later n object upper) (overlays later) ≡ true
+      counted : list_any (counts_as_in_layer nat_eq later n object upper) (overlays later) ≡ true
           → Lies upper n object ⊎ IsNewBy fresh object
-      counted f = found_of (any_among (counts_in_layer nat_eq later n object upper) (overlays later) f)
+      counted f = found_of (any_among (counts_as_in_layer nat_eq later n object upper) (overlays later) f)
 
   -- what overlaps then overlapped before
   not_new : (layer : Layer ℕ) → is_plain_layer nat_eq world layer ≡ true → (n object : ℕ) → Lies layer n object

@@ -1,6 +1,6 @@
 -- What lies or counts under a layer is there.
 use Rattle.std.proofs.Common.{arith, ◌≡◌, sym, ap, subst, ◌∙◌, true≢false, eqb-true, eq-eqb, ne_eqb, ⊎_elim, inl, inr, ℕ, nat_eq, true, false, not, List, [], ◌∷◌, Option, Some, None, is_some}
-use Rattle.vt_spec.proofs.Common.{Among, OverlayInvariants, Filesystem, Layer, Lower, Overlay, Real, Upper, World, among-from_filter, and_true_left, and_true_right, any_among, any_pair, common_steps, counts_in_layer, filesystem_numbered, holds_of, is_object_of, is_overlay, is_plain_layer, is_real_upper, is_there, is_under, lies_in_layer, lies_or_counts_under, list_any, none_among, open_layer, or_cases, or_false_left, or_false_right, overlays, upper_object, OverlayInvariants, or_right, any_from_among, and_from}
+use Rattle.vt_spec.proofs.Common.{Among, OverlayInvariants, Filesystem, Layer, Lower, Overlay, Real, Upper, World, among-from_filter, and_true_left, and_true_right, any_among, any_pair, common_steps, counts_as_in_layer, filesystem_numbered, holds_of, is_object_of, is_overlay, is_plain_layer, is_real_upper, is_there, is_under, lies_in_layer, lies_or_counts_under, list_any, none_among, open_layer, or_cases, or_false_left, or_false_right, overlays, upper_object, OverlayInvariants, or_right, any_from_among, and_from}
 use Rattle.vt_laws_trees.proofs.layers.layers.ShownDirectories.{led_is_there}
 use Rattle.vt_laws_trees.proofs.overlays.whole.ApartPaths.{under_led}
 use Rattle.vt_laws_trees.specs.Trees.Settling.{inode_in}
@@ -31,7 +31,7 @@ pub record Counts (w : World ℕ) (layer : Layer ℕ) (n object : ℕ) (g : File
   pub object_of : is_object_of nat_eq n object g overlay_of ≡ true
 
 pub counts_parts : (w : World ℕ) (layer : Layer ℕ) (n object : ℕ) (g : Filesystem ℕ)
-    → counts_in_layer nat_eq w n object layer g ≡ true → Counts w layer n object g
+    → counts_as_in_layer nat_eq w n object layer g ≡ true → Counts w layer n object g
 counts_parts w layer n object g e = grind (arith, common_steps, true≢false, and_true_left, and_true_right)
 
 pub counts_again : (world : World ℕ) (layer : Layer ℕ) (n object : ℕ) (g : Filesystem ℕ) → Among g (overlays world)
@@ -73,10 +73,10 @@ module _ (world : World ℕ) (files : AreTrees world) (are : OverlayInvariants n
           (led_is_there (open_layer nat_eq world layer) tree (and_true_right (not
           (is_overlay (filesystem_numbered nat_eq world layer.filesystem))) _ plain) way.0 object way.1)
 
-      counted : list_any (counts_in_layer nat_eq world n object layer) (overlays world) ≡ true
+      counted : list_any (counts_as_in_layer nat_eq world n object layer) (overlays world) ≡ true
           → is_some (inode_in world n object) ≡ true
       counted f =
-          let found = any_among (counts_in_layer nat_eq world n object layer) (overlays world) f in
+          let found = any_among (counts_as_in_layer nat_eq world n object layer) (overlays world) f in
           let g = found.0 in
           let parts = counts_parts world layer n object g found.2 in
           let real = real_of_object g parts.overlay_of parts.upper_of_it parts.has_it n object parts.object_of in

@@ -1,6 +1,6 @@
 -- Each call is answered alike in two worlds that are alike, where what is copied up is.
 use Rattle.std.proofs.Common.{◌≡◌, refl, sym, subst, ◌∙◌, ℕ, nat_eq, Bool, true, false, not, ◌||◌, List, Option, Some, None, Ok, Err, is_ok, ok_or}
-use Rattle.vt_spec.proofs.Common.{Call, Fresh, Judgement, LowerObjectsHaveOneName, Outcome, Permit, Task, TaskName, ToMountOverlay, World, after, apply, denial, filesystems_changed_by, finished, finished_by, judge_in, looks_of, only_looks, policy, task_called}
+use Rattle.vt_spec.proofs.Common.{Call, Fresh, Judgement, LowerObjectsHaveOneName, Outcome, Permit, Task, TaskName, ToMountOverlay, World, after, apply, denial, filesystems_changed_by, finished, finished_unless, judge_in, looks_of, only_looks, policy, task_called}
 use Rattle.vt_laws_rules.proofs.denials.Unchanged.{directive_changes_nothing}
 use Rattle.vt_laws_rules.proofs.given.GivenPermits.{permits_are_for_their_calls}
 use Rattle.vt_laws_rules.proofs.same.SameJudged.{plain_has_one_name}
@@ -42,8 +42,8 @@ module _ (fresh : Fresh ℕ) (one other : World ℕ) (same : Alike one other)
 
   module _ (name : TaskName) where
     last_alike : (keeps : Bool) (changed others : List ℕ) (under again : Outcome ℕ) → OutcomesAlike under again
-        → OutcomesAlike (finished_by nat_eq keeps one name changed under)
-        (finished_by nat_eq keeps other name others again)
+        → OutcomesAlike (finished_unless nat_eq keeps one name changed under)
+        (finished_unless nat_eq keeps other name others again)
     last_alike true changed others under again alike = alike
     last_alike false changed others under again alike = record {
       answer = alike.answer;
@@ -54,7 +54,7 @@ module _ (fresh : Fresh ℕ) (one other : World ℕ) (same : Alike one other)
         → OutcomesAlike (finished nat_eq one name call changed under) (finished nat_eq other name call others again)
     finished_alike changed others under again alike =
         subst (λ answer. OutcomesAlike (finished nat_eq one name call changed under)
-        (finished_by nat_eq (only_looks call || not (is_ok answer)) other name others again))
+        (finished_unless nat_eq (only_looks call || not (is_ok answer)) other name others again))
         alike.answer (last_alike (only_looks call || not (is_ok under.answer)) changed others under again alike)
 
     abbrev by_task : World ℕ → Task ℕ → Outcome ℕ

@@ -1,6 +1,6 @@
 -- Calls that mount no overlay leave plain filesystems.
 use Rattle.std.proofs.Common.{◌≡◌, refl, sym, ap, subst, true≢false, inl, ℕ, nat_eq, Bool, true, false, List, [], ◌∷◌, Some, None, All}
-use Rattle.vt_spec.proofs.Common.{Change, CopyUp, Fresh, Location, Outcome, Permit, Task, TaskName, ToChange, ToMake, ToMountOverlay, ToMountPlain, ToOpen, ToOpenNew, ToRemoveDirectory, ToRename, ToWritePart, World, apply, changed, filesystem_at, filesystem_changed, filesystem_numbered, filesystems-taken_away, filesystems-without_replaced, finished_by, is_copied_up, is_overlay, mount_at, none_from_not_some, odds, pwritten, settled, with_change, with_copy, with_files, without_mounts_on, without_replaced}
+use Rattle.vt_spec.proofs.Common.{Change, CopyUp, Fresh, Location, Outcome, Permit, Task, TaskName, ToChange, ToMake, ToMountOverlay, ToMountPlain, ToOpen, ToOpenNew, ToRemoveDirectory, ToRename, ToWritePart, World, apply, changed, filesystem_at, filesystem_changed, filesystem_numbered, filesystems-taken_away, filesystems-without_replaced, finished_unless, is_copied_up, is_overlay, mount_at, none_from_not_some, odds, pwritten, settled, with_change, with_copy, with_files, without_mounts_on, without_replaced}
 use Rattle.vt_laws_rules.specs.Plain.{IsPlain}
 use Rattle.vt_laws_trees.proofs.trees.ChangesByCalls.{new_is_plain, settled_plain}
 use Rattle.vt_laws_trees.proofs.trees.ChangesByOthers.{files_stay}
@@ -60,7 +60,7 @@ permit_plain fresh world task permit plain other =
     same_plain world (apply nat_eq fresh world task permit).world (files_stay fresh world task permit refl) plain
 
 pub finished_plain : (keeps : Bool) (before : World ℕ) (name : TaskName) (changed : List ℕ) (outcome : Outcome ℕ)
-    → IsPlain outcome.world → IsPlain (finished_by nat_eq keeps before name changed outcome).world
+    → IsPlain outcome.world → IsPlain (finished_unless nat_eq keeps before name changed outcome).world
 finished_plain true before name changed outcome plain = plain
 finished_plain false before name changed outcome plain = raised_all (λ f. is_overlay f ≡ false) changed
     (λ filesystem is. is) (settled nat_eq outcome.world).filesystems (settled_plain outcome.world plain)

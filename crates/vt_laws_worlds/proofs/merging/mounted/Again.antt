@@ -1,6 +1,6 @@
 -- An overlay that is mounted anew over layers that lead where they led shows the same tree.
 use Rattle.std.proofs.Common.{◌≡◌, refl, sym, ap, subst, ◌∙◌, arith, ◌<◌, ℕ, suc, length, nat_eq, Bool, true, false, not, cond, ◌||◌, List, [], ◌∷◌, map, Option, Some, Ok, find, unwrap_or, is_ok}
-use Rattle.vt_spec.proofs.Common.{Done, Filesystem, Fresh, IsWorld, Layer, LayerLocations, MountFlags, MountOverlay, Outcome, OverlayWords, SameObject, Task, World, answer-finished_by, call_outcome, evens, filesystem_numbered, filesystems_changed_by, finished, finished_by, judge_in, no_filesystem, node_at_path, number_at_path, numbers_raised, only_looks, open_layer, overlay_filesystem, policy, raised, raised_if_changed, shown_layers, task_called, then_some}
+use Rattle.vt_spec.proofs.Common.{Done, Filesystem, Fresh, IsWorld, Layer, LayerLocations, MountFlags, MountOverlay, Outcome, OverlayWords, SameObject, Task, World, answer-finished_unless, call_outcome, evens, filesystem_numbered, filesystems_changed_by, finished, finished_unless, judge_in, no_filesystem, node_at_path, number_at_path, numbers_raised, only_looks, open_layer, overlay_filesystem, policy, raised, raised_if_changed, shown_layers, task_called, then_some}
 use Rattle.vt_spec.proofs.Tables.{layers_walked, overlay_at}
 use Rattle.vt_laws_trees.specs.Layers.Layers.Mounted.{AreAsOthers, AreLayers, IsAlike}
 use Rattle.vt_laws_trees.specs.Layers.Layers.Mounting.{AreNewNumbers}
@@ -50,13 +50,13 @@ module _ {fresh : Fresh ℕ} {later : World ℕ} (conditions : IsWorld nat_eq la
   policy_is = cc
 
   pub granted_so : mounted.answer ≡ Ok Done
-  granted_so = sym (answer-finished_by (only_looks (MountOverlay path (Some words) flags) || not
+  granted_so = sym (answer-finished_unless (only_looks (MountOverlay path (Some words) flags) || not
       (is_ok mounted.answer)) later task.name changed mounted) ∙ ap (λ o. o.answer) (sym policy_is) ∙ grants
 
   pub world_is : world_mounted fresh later task path words flags
       ≡ numbers_raised nat_eq later task.name changed mounted.world
   world_is = ap (λ o. o.world) policy_is
-      ∙ ap (λ r. (finished_by nat_eq (only_looks (MountOverlay path (Some words) flags) || not
+      ∙ ap (λ r. (finished_unless nat_eq (only_looks (MountOverlay path (Some words) flags) || not
       (is_ok r)) later task.name changed mounted).world) granted_so ∙ ap (numbers_raised nat_eq later task.name changed)
       (mounting_lets_nothing_go fresh later task path (Some words) flags conditions are_new)
 

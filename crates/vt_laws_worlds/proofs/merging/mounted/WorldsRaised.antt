@@ -1,6 +1,6 @@
 -- Change numbers are read by no invariant, of overlays neither.
 use Rattle.std.proofs.Common.{◌≡◌, refl, sym, ap, subst, ◌∙◌, ℕ, nat_eq, Bool, true, false, not, ◌&&◌, ◌||◌, List, [], ◌∷◌, filter, find, flat_map, map, Option, Some, None, is_some, slice_get, unwrap_or, is_ok, ok_or, option_map, arith}
-use Rattle.vt_spec.proofs.Common.{Filesystem, IsMerged, IsReached, IsWorld, Layer, Lower, MountOverlay, Namespace, OpenLayer, Overlay, OverlayInvariants, Real, SameObject, Task, Upper, World, after, all-map, any_pair, call_outcome, denial, filesystem_numbered, filesystems_changed_by, finished, finished_by, has_fit_layers, holds_of, is_directory_node, is_kind_in, is_object_of, is_opaque_in, is_overlay, is_plain_layer, is_under, judge_in, layer_node, layers_of, lies_or_counts_under, list_all, list_any, live_lowers, live_upper_and_work, merged_at, no_filesystem, node_at_path, number_at_path, of_overlay, only_looks, overlay_or, overlays, real_node, real_object, settled, shown, shown_layers, task_called, then_some, upper_and_work, common_steps}
+use Rattle.vt_spec.proofs.Common.{Filesystem, IsMerged, IsReached, IsWorld, Layer, Lower, MountOverlay, Namespace, OpenLayer, Overlay, OverlayInvariants, Real, SameObject, Task, Upper, World, after, all-map, any_pair, call_outcome, denial, filesystem_numbered, filesystems_changed_by, finished, finished_unless, has_fit_layers, holds_of, is_directory_node, is_kind_in, is_object_of, is_opaque_in, is_overlay, is_plain_layer, is_under, judge_in, layer_node, layers_of, lies_or_counts_under, list_all, list_any, live_lowers, live_upper_and_work, merged_at, no_filesystem, node_at_path, number_at_path, of_overlay, only_looks, overlay_or, overlays, real_node, real_object, settled, shown, shown_layers, task_called, then_some, upper_and_work, common_steps}
 use Rattle.vt_spec.specs.declared.errors.Rule.TheVariants.{S2}
 use Rattle.vt_spec.specs.declared.attributes.Kind.TheVariants.{White}
 use Rattle.vt_laws_mounts.proofs.letting_go.sweeps.InUse.{nothing_goes}
@@ -167,7 +167,7 @@ pub policy_mounts_a_world : PolicyMountsAWorld
 policy_mounts_a_world fresh world name path options flags is serves = by _ refl
   where
     last : (task : Task ℕ) → task_called world task.name ≡ Some task → (b : Bool) (changed : List ℕ)
-        → IsWorld nat_eq (finished_by nat_eq b world name changed
+        → IsWorld nat_eq (finished_unless nat_eq b world name changed
         (call_outcome nat_eq fresh world task (MountOverlay path options flags))).world
     last task called true changed = mounting_leaves_a_world fresh world task path options flags is serves called
     last task called false changed = raising_keeps_worlds world name changed

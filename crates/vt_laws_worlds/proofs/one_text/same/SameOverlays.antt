@@ -1,6 +1,6 @@
 -- The invariants of overlays go along worlds that are the same.
 use Rattle.std.proofs.Common.{arith, ◌≡◌, sym, ap, subst, ◌∙◌, ℕ, nat_eq, true, not, ◌&&◌, ◌||◌, List, [], ◌∷◌, map, flat_map, Option, is_some, option_map, slice_get}
-use Rattle.vt_spec.proofs.Common.{Filesystem, IsMerged, IsReached, Layer, Lower, Node, Overlay, OverlayInvariants, Real, SameFilesystem, SameObject, Upper, World, any_pair, common_steps, counts_in_layer, filesystem_numbered, has_fit_layers, holds_of, is_directory_node, is_kind_in, is_opaque_in, is_plain_layer, layer_node, layers_of, led, lies_in_layer, lies_or_counts_under, list_all, list_any, list_any-IsPermutation, live_lowers, live_upper_and_work, merged_at, node_at_path, of_overlay, overlaps_one_of, overlay_or, overlays, real_node, real_object, shown, shown_layers, then_some, upper_and_work}
+use Rattle.vt_spec.proofs.Common.{Filesystem, IsMerged, IsReached, Layer, Lower, Node, Overlay, OverlayInvariants, Real, SameFilesystem, SameObject, Upper, World, any_pair, common_steps, counts_as_in_layer, filesystem_numbered, has_fit_layers, holds_of, is_directory_node, is_kind_in, is_opaque_in, is_plain_layer, layer_node, layers_of, led, lies_in_layer, lies_or_counts_under, list_all, list_any, list_any-IsPermutation, live_lowers, live_upper_and_work, merged_at, node_at_path, of_overlay, overlaps_one_of, overlay_or, overlays, real_node, real_object, shown, shown_layers, then_some, upper_and_work}
 use Rattle.vt_laws_trees.proofs.runs.answered.AlikeChanges.{found_alike, opened_same}
 use Rattle.vt_laws_trees.proofs.runs.answered.AlikeDirected.{overlays_alike}
 use Rattle.vt_laws_trees.proofs.runs.answered.AlikeWorlds.{Alike}
@@ -69,8 +69,8 @@ module _ (one other : World ℕ) (same : Alike one other) where
       (under_same _ _ (found_alike one other same filesystem).files layer.directory object)
 
   counts_same : (filesystem object : ℕ) (layer : Layer ℕ) (merged again : Filesystem ℕ) → SameFilesystem merged again
-      → counts_in_layer nat_eq one filesystem object layer merged
-      ≡ counts_in_layer nat_eq other filesystem object layer again
+      → counts_as_in_layer nat_eq one filesystem object layer merged
+      ≡ counts_as_in_layer nat_eq other filesystem object layer again
   counts_same filesystem object layer merged again alike =
       grind (arith, common_steps, lies_same, list_any-IsPermutation)
 
@@ -78,8 +78,8 @@ module _ (one other : World ℕ) (same : Alike one other) where
       → lies_or_counts_under nat_eq one filesystem object layer
       ≡ lies_or_counts_under nat_eq other filesystem object layer
   lies_or_counts_same filesystem object layer = λ i. lies_same filesystem object layer i
-      || each_any SameFilesystem (counts_in_layer nat_eq one filesystem object layer)
-      (counts_in_layer nat_eq other filesystem object layer) (counts_same filesystem object layer) (overlays one)
+      || each_any SameFilesystem (counts_as_in_layer nat_eq one filesystem object layer)
+      (counts_as_in_layer nat_eq other filesystem object layer) (counts_same filesystem object layer) (overlays one)
       (overlays other) (overlays_alike one.filesystems other.filesystems same.filesystems) i
 
   overlaps_same : (others : List (Layer ℕ)) (layer : Layer ℕ)

@@ -1,6 +1,6 @@
 -- Every call that changes nothing through an overlay leaves each of its layers, when what nothing uses is gone, too.
 use Rattle.std.proofs.Common.{◌≡◌, ◌≢◌, refl, sym, ap, subst, ◌∙◌, true≢false, ℕ, nat_eq, Bool, true, false, not, List, [], ◌∷◌, ◌++◌, Option, Some, None, Ok, is_some, Contains, option_to_list}
-use Rattle.vt_spec.proofs.Common.{Among, Call, Change, Filesystem, Fresh, IsWorld, Layer, Location, MountOverlay, Overlay, OverlayInvariants, Permit, Serves, Task, TaskName, World, among_from_contains, and_true_right, apply, call_outcome, directory_used, filesystem_numbered, finished_by, is_overlay, judge_in, layers_of, mount_at, plain_filesystem, same_Some, settled, task_called, without_dead_filesystems, without_dead_in, without_dead_mounts}
+use Rattle.vt_spec.proofs.Common.{Among, Call, Change, Filesystem, Fresh, IsWorld, Layer, Location, MountOverlay, Overlay, OverlayInvariants, Permit, Serves, Task, TaskName, World, among_from_contains, and_true_right, apply, call_outcome, directory_used, filesystem_numbered, finished_unless, is_overlay, judge_in, layers_of, mount_at, plain_filesystem, same_Some, settled, task_called, without_dead_filesystems, without_dead_in, without_dead_mounts}
 use Rattle.vt_laws_trees.specs.Trees.Calls.{mounts_overlay}
 use Rattle.vt_laws_trees.specs.Trees.Limits.{names_few_groups}
 use Rattle.vt_laws_trees.specs.Layers.Layers.Locked.{LeadsAsBefore}
@@ -74,7 +74,7 @@ module _ (world : World ℕ) (is : IsWorld nat_eq world) (number : ℕ) (overlay
   left = (call_outcome nat_eq fresh world task call).world
 
   abbrev last : TaskName → List ℕ → World ℕ
-  last name changed = (finished_by nat_eq false world name changed (call_outcome nat_eq fresh world task call)).world
+  last name changed = (finished_unless nat_eq false world name changed (call_outcome nat_eq fresh world task call)).world
 
   m : Among layer (layers_of overlay)
   m = among_from_contains (layers_of overlay) layer contains

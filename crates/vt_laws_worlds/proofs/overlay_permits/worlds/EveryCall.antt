@@ -1,6 +1,6 @@
 -- Every call keeps the invariants of a world, with overlays too.
 use Rattle.std.proofs.Common.{◌≡◌, refl, sym, ap, subst, ◌∙◌, ℕ, nat_eq, Bool, true, false, List, [], ◌∷◌, ◌++◌, Option, Some, None, Ok}
-use Rattle.vt_spec.proofs.Common.{Call, Change, CopyUp, Filesystem, ForksAreCounted, Fresh, IsWorld, Layer, Location, MountInvariants, MountOverlay, NamespaceInvariants, Outcome, Overlay, OverlayInvariants, Permit, Serves, Task, TaskName, ToChange, ToEnterNamespace, ToExit, ToMake, ToMountOverlay, ToMountPlain, ToOpen, ToOpenNew, ToRemoveDirectory, ToRename, ToSetType, ToUnmount, ToUnmountLazily, ToUnshare, ToWritePart, TreeInvariants, World, apply, call_outcome, evens, filesystem_at, filesystem_changed, filesystems-taken_away, finished_by, going, is_copied_up, is_within_limits, judge_in, mount_numbered, namespace_entered, none_is_some, overlay_changed, overlay_filesystem, plain_filesystem, policy, same_name, settled, task_called, unshared, when, with_change, with_copy, with_new_filesystem, without_task}
+use Rattle.vt_spec.proofs.Common.{Call, Change, CopyUp, Filesystem, ForksAreCounted, Fresh, IsWorld, Layer, Location, MountInvariants, MountOverlay, NamespaceInvariants, Outcome, Overlay, OverlayInvariants, Permit, Serves, Task, TaskName, ToChange, ToEnterNamespace, ToExit, ToMake, ToMountOverlay, ToMountPlain, ToOpen, ToOpenNew, ToRemoveDirectory, ToRename, ToSetType, ToUnmount, ToUnmountLazily, ToUnshare, ToWritePart, TreeInvariants, World, apply, call_outcome, evens, filesystem_at, filesystem_changed, filesystems-taken_away, finished_unless, going, is_copied_up, is_within_limits, judge_in, mount_numbered, namespace_entered, none_is_some, overlay_changed, overlay_filesystem, plain_filesystem, policy, same_name, settled, task_called, unshared, when, with_change, with_copy, with_new_filesystem, without_task}
 use Rattle.vt_laws_rules.proofs.judged.CallsJudged.{call_is_judged_then_applied}
 use Rattle.vt_laws_mounts.proofs.letting_go.Lists.{all_from_among, among_from_list_all}
 use Rattle.vt_laws_mounts.proofs.mounts.MountsRetyped.{types_are_of_mounts}
@@ -184,7 +184,7 @@ module _ {world : World ℕ} {fresh : Fresh ℕ} {task : Task ℕ} (call : Call)
 
   -- and then what nothing uses goes, and numbers are raised
   finished_keeps : (name : TaskName) (changed : List ℕ)
-      → IsWorld nat_eq (finished_by nat_eq false world name changed (call_outcome nat_eq fresh world task call)).world
+      → IsWorld nat_eq (finished_unless nat_eq false world name changed (call_outcome nat_eq fresh world task call)).world
   finished_keeps name changed = raising_keeps_worlds world name changed (settled nat_eq after_call)
       (settled_is_a_world after_call under overlays_kept)
 

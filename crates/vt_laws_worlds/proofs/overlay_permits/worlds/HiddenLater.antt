@@ -1,6 +1,6 @@
 -- What a change of an overlay hides does not show again while the overlay lives.
 use Rattle.std.proofs.Common.{arith, ◌≡◌, ◌≢◌, refl, sym, ap, subst, ◌∙◌, true≢false, inl, inr, ℕ, zero, suc, ◌+◌, ◌&&◌, nat_eq, eqb-true, eq-eqb, Bool, true, false, not, List, [], ◌∷◌, ◌++◌, map, Option, Some, None, Ok, is_some, length, nat_lt, option_to_list}
-use Rattle.vt_spec.proofs.Common.{Among, Call, Change, Filesystem, Fresh, Grammar, IsWorld, Layer, Location, Merge, OpenLayer, Overlay, Permit, Request, Serves, Shown, Stack, Task, TaskName, Tree, World, call_outcome, common_steps, contains_from_among, filesystem_at, filesystem_changed, filesystem_numbered, finished_by, is_silent, judge_in, layers_of, line_step, line_step_by, longest_line, merge_changed, merge_of, mount_at, open_layer, opening, overlay_changed, policy, request_of, requested, same_Some, settled, shown, shown_layers, stack_of, step_world, task_called, view_of, with_change}
+use Rattle.vt_spec.proofs.Common.{Among, Call, Change, Filesystem, Fresh, Grammar, IsWorld, Layer, Location, Merge, OpenLayer, Overlay, Permit, Request, Serves, Shown, Stack, Task, TaskName, Tree, World, call_outcome, common_steps, contains_from_among, filesystem_at, filesystem_changed, filesystem_numbered, finished_unless, is_silent, judge_in, layers_of, line_step, line_step_by, longest_line, merge_changed, merge_of, mount_at, open_layer, opening, overlay_changed, policy, request_of, requested, same_Some, settled, shown, shown_layers, stack_of, step_world, task_called, view_of, with_change}
 use Rattle.vt_laws_rules.proofs.denials.Unchanged.{directive_changes_nothing, refused_memory_changes_nothing}
 use Rattle.vt_laws_trees.specs.Trees.Calls.{mounts_overlay}
 use Rattle.vt_laws_trees.specs.Trees.Limits.{names_few_groups}
@@ -130,7 +130,7 @@ module _ {world : World ℕ} (is : IsWorld nat_eq world) (number : ℕ) {overlay
   called_world = (call_outcome nat_eq fresh world task call).world
 
   abbrev last : TaskName → List ℕ → World ℕ
-  last name changed = (finished_by nat_eq false world name changed (call_outcome nat_eq fresh world task call)).world
+  last name changed = (finished_unless nat_eq false world name changed (call_outcome nat_eq fresh world task call)).world
 
   -- of a change through the overlay
   through : (location : Location ℕ) (change : Change ℕ) → change_asked fresh world permit ≡ Some (location, change)

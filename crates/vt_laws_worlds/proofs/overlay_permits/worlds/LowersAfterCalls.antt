@@ -1,6 +1,6 @@
 -- After every call that leaves an overlay live its lower layers are as they were.
 use Rattle.std.proofs.Common.{arith, ◌≡◌, refl, sym, ap, subst, ◌∙◌, ⊎_elim, ℕ, nat_eq, true≢false, Bool, true, false, List, [], ◌∷◌, ◌++◌, ◌&&◌, not, eqb-true, find, Option, Some, None, Ok, is_some, option_map, unwrap_or}
-use Rattle.vt_spec.proofs.Common.{AddName, Among, Call, Change, CopyUp, Filesystem, Fresh, IsWorld, Layer, Location, Make, MountOverlay, Move, Outcome, Overlay, Permit, Remove, Serves, SetAttr, SetBytes, SetMark, Task, TaskName, ToChange, ToMake, ToOpen, ToOpenNew, ToRemoveDirectory, ToRename, ToWritePart, World, after, among-from_filter, among_from_contains, and_true_left, and_true_right, any_among, apply, call_outcome, common_steps, contains_from_among, counts_in_layer, directory_used, filesystem_numbered, finished_by, holds_of, is_directory_node, is_object_of, is_overlay, is_real_upper, judge_in, led, lies_in_layer, lies_or_counts_under, list_any, live_lowers, looks_of, no_filesystem, or_cases, overlay_or, overlays, plain_filesystem, policy, settled, task_called, then_some, upper_real, with_change}
+use Rattle.vt_spec.proofs.Common.{AddName, Among, Call, Change, CopyUp, Filesystem, Fresh, IsWorld, Layer, Location, Make, MountOverlay, Move, Outcome, Overlay, Permit, Remove, Serves, SetAttr, SetBytes, SetMark, Task, TaskName, ToChange, ToMake, ToOpen, ToOpenNew, ToRemoveDirectory, ToRename, ToWritePart, World, after, among-from_filter, among_from_contains, and_true_left, and_true_right, any_among, apply, call_outcome, common_steps, contains_from_among, counts_as_in_layer, directory_used, filesystem_numbered, finished_unless, holds_of, is_directory_node, is_object_of, is_overlay, is_real_upper, judge_in, led, lies_in_layer, lies_or_counts_under, list_any, live_lowers, looks_of, no_filesystem, or_cases, overlay_or, overlays, plain_filesystem, policy, settled, task_called, then_some, upper_real, with_change}
 use Rattle.vt_laws_rules.specs.Given.{IsFor, makes_a_name}
 use Rattle.vt_laws_rules.proofs.judged.CallsJudged.{call_is_judged_then_applied}
 use Rattle.vt_laws_rules.proofs.given.GivenPermits.{permits_are_for_their_calls}
@@ -136,8 +136,8 @@ module _ (world : World ℕ) (is : IsWorld nat_eq world) (number : ℕ) (overlay
 
     -- and after
     finished_stays : names_few_groups call ≡ true → (name : TaskName) (changed : List ℕ)
-        → is_live (finished_by nat_eq false world name changed (call_outcome nat_eq fresh world task call)).world number
-        ≡ true → OverlayStays world (finished_by nat_eq false world name changed
+        → is_live (finished_unless nat_eq false world name changed (call_outcome nat_eq fresh world task call)).world number
+        ≡ true → OverlayStays world (finished_unless nat_eq false world name changed
         (call_outcome nat_eq fresh world task call)).world number overlay
     finished_stays few name changed live = by (filesystem_numbered nat_eq (settled nat_eq left) number).overlay refl
       where
@@ -159,7 +159,7 @@ module _ (world : World ℕ) (is : IsWorld nat_eq world) (number : ℕ) (overlay
             mounted c m g = cc
 
         by : (o : Option (Overlay ℕ)) → (filesystem_numbered nat_eq (settled nat_eq left) number).overlay ≡ o
-            → OverlayStays world (finished_by nat_eq false world name changed
+            → OverlayStays world (finished_unless nat_eq false world name changed
             (call_outcome nat_eq fresh world task call)).world number overlay
         by None e = absurd (true≢false (sym live
             ∙ ap is_some (raised_overlay world name changed (settled nat_eq left) number ∙ e)))
@@ -185,9 +185,9 @@ module _ (world : World ℕ) (is : IsWorld nat_eq world) (number : ℕ) (overlay
 
     -- no upper object counts under it
     counts_never : lies_or_counts_under nat_eq world lower.filesystem inode lower ≡ true
-        → list_any (counts_in_layer nat_eq world lower.filesystem inode lower) (overlays world) ≡ true → ⊥
+        → list_any (counts_as_in_layer nat_eq world lower.filesystem inode lower) (overlays world) ≡ true → ⊥
     counts_never lies h =
-        let found = any_among (counts_in_layer nat_eq world lower.filesystem inode lower) (overlays world) h in
+        let found = any_among (counts_as_in_layer nat_eq world lower.filesystem inode lower) (overlays world) h in
         by found.0 (found_filesystem world.filesystems is.files.one_filesystem found.0
         (among-from_filter is_overlay world.filesystems found.0 found.1).0) found.0.overlay refl found.2
       where

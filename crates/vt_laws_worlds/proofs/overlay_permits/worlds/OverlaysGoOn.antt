@@ -2,7 +2,7 @@
 -- invariants of overlays
 -- hold, where they held before.
 use Rattle.std.proofs.Common.{arith, ◌≡◌, refl, sym, ap, subst, ◌∙◌, eqb-true, eq-eqb, ⊎_elim, inl, inr, ℕ, nat_eq, Bool, true, false, not, ◌&&◌, List, [], ◌∷◌, ◌++◌, Option, Some, None, is_some, flat_map, option_to_list}
-use Rattle.vt_spec.proofs.Common.{Among, Filesystem, IsMerged, IsReached, Layer, Node, Overlay, OverlayInvariants, Upper, World, among-append_left, among-append_right, among-from_filter, among-from_flat_map, and_from, and_true_left, and_true_right, any_among, any_from_among, any_pair, common_steps, counts_in_layer, filesystem_numbered, has_fit_layers, is_directory_node, is_overlay, is_plain_layer, is_real_upper, is_under, layers_of, lies_in_layer, lies_or_counts_under, list_all, list_all_from_among, list_any, live_lowers, live_upper_and_work, none_among, none_from_among, none_is_some, of_overlay, or_cases, or_left, overlap, overlaps_one_of, overlay_or, overlays, upper_and_work}
+use Rattle.vt_spec.proofs.Common.{Among, Filesystem, IsMerged, IsReached, Layer, Node, Overlay, OverlayInvariants, Upper, World, among-append_left, among-append_right, among-from_filter, among-from_flat_map, and_from, and_true_left, and_true_right, any_among, any_from_among, any_pair, common_steps, counts_as_in_layer, filesystem_numbered, has_fit_layers, is_directory_node, is_overlay, is_plain_layer, is_real_upper, is_under, layers_of, lies_in_layer, lies_or_counts_under, list_all, list_all_from_among, list_any, live_lowers, live_upper_and_work, none_among, none_from_among, none_is_some, of_overlay, or_cases, or_left, overlap, overlaps_one_of, overlay_or, overlays, upper_and_work}
 use Rattle.vt_laws_mounts.proofs.letting_go.sweeps.OfWorlds.{found_filesystem}
 use Rattle.vt_laws_trees.specs.Layers.Layers.Locked.{LeadsAsBefore}
 use Rattle.vt_laws_trees.proofs.layers.locked.Apart.{layer_among, merged_among}
@@ -146,7 +146,7 @@ module _ (world later : World ℕ) (files : AreTrees world) (are : OverlayInvari
   lay_or_counted : (layer : Layer ℕ) → IsLive layer → (n object : ℕ) → Lies later layer n object
       → Lies world layer n object
   lay_or_counted layer live n object e = ⊎_elim (λ lies. or_left _ _ (lay layer live n object lies)) (λ h.
-      let found = any_among (counts_in_layer nat_eq later n object layer) (overlays later) h in
+      let found = any_among (counts_as_in_layer nat_eq later n object layer) (overlays later) h in
       counted layer live n object found.0 found.1 (counts_parts later layer n object found.0 found.2))
       (or_cases (lies_in_layer nat_eq later n object layer) _ e)
 

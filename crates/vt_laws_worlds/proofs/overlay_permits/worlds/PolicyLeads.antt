@@ -1,7 +1,7 @@
 -- What holds of a world, and of what each granted call leaves when what nothing uses is gone and the numbers that it
 -- raises are raised, holds of what the policy leaves.
 use Rattle.std.proofs.Common.{◌≡◌, refl, sym, ap, subst, ◌∙◌, ℕ, nat_eq, Bool, true, false, List, ◌||◌, not, Some, Result, Ok, Err, is_ok, true≢false, arith}
-use Rattle.vt_spec.proofs.Common.{Answer, Call, Fresh, Outcome, Permit, Task, TaskName, World, after, apply, call_outcome, common_steps, filesystems_changed, filesystems_changed_by, finished, finished_by, judge_in, not-true, numbers_raised, only_looks, or_parts, policy, settled, task_called}
+use Rattle.vt_spec.proofs.Common.{Answer, Call, Fresh, Outcome, Permit, Task, TaskName, World, after, apply, call_outcome, common_steps, filesystems_changed, filesystems_changed_by, finished, finished_unless, judge_in, not-true, numbers_raised, only_looks, or_parts, policy, settled, task_called}
 use Rattle.vt_laws_worlds.proofs.worlds.CallsKept.{name_found}
 use Rattle.vt_spec.specs.declared.errors.Deny.{Deny}
 use Rattle.vt_laws_rules.proofs.judged.CallsJudged.{call_is_judged_then_applied}
@@ -50,15 +50,15 @@ module _ (Holds : World ℕ → Type 0) (world : World ℕ) (fresh : Fresh ℕ) 
   -- whatever filesystems are said to have changed
   pub named_leads : ((task : Task ℕ) → task_called world name ≡ Some task → (permit : Permit ℕ) (changed : List ℕ)
       → judge_in nat_eq fresh world task call ≡ Ok permit
-      → Holds (finished_by nat_eq false world name changed (call_outcome nat_eq fresh world task call)).world) → Left
+      → Holds (finished_unless nat_eq false world name changed (call_outcome nat_eq fresh world task call)).world) → Left
   named_leads granted = named_leaves (λ task found permit judged. subst (λ outcome.
-      Holds (finished_by nat_eq false world name (filesystems_changed nat_eq world permit) outcome).world)
+      Holds (finished_unless nat_eq false world name (filesystems_changed nat_eq world permit) outcome).world)
       (call_is_judged_then_applied fresh world task call
       ∙ ap (λ j. after world j (apply nat_eq fresh world task)) judged)
       (granted task found permit (filesystems_changed nat_eq world permit) judged))
 
   pub policy_leads : ((task : Task ℕ) (permit : Permit ℕ) (changed : List ℕ) → task_called world task.name ≡ Some task
       → judge_in nat_eq fresh world task call ≡ Ok permit
-      → Holds (finished_by nat_eq false world name changed (call_outcome nat_eq fresh world task call)).world) → Left
+      → Holds (finished_unless nat_eq false world name changed (call_outcome nat_eq fresh world task call)).world) → Left
   policy_leads granted = named_leads (λ task found permit changed.
       granted task permit changed (cc (name_found world name task found)))

@@ -1,8 +1,9 @@
 -- Lists of filesystems, woven by their numbers.
 use Rattle.std.proofs.Common.{◌≡◌, refl, sym, ap, subst, ◌∙◌, ℕ, nat_eq, nat_lt, Bool, true, false, cond, not, ◌&&◌, List, [], ◌∷◌, filter, find, arith, All, ltb-true}
 use Rattle.vt_spec.proofs.Common.{All-head, All-tail, Filesystem, SameFilesystem, SameFilesystems, all-filter, and_parts, common_steps, list_all}
+use Rattle.vt_laws_trees.specs.Overlays.InOrder.{put_in}
 use Rattle.vt_laws_trees.proofs.runs.Permuted.{and_swapped}
-use Rattle.vt_laws_worlds.specs.OverlaysStay.Woven.{PlainOnesAreFound, RisingListsAreWoven, WovenListsAreAlike, WovenListsAreFailing, WovenListsAreFiltered, WovenListsArePassing, WovenListsPassAll, are_rising, put_in, woven}
+use Rattle.vt_laws_worlds.specs.OverlaysStay.Woven.{PlainOnesAreFound, RisingListsAreWoven, WovenListsAreAlike, WovenListsAreFailing, WovenListsAreFiltered, WovenListsArePassing, WovenListsPassAll, are_rising, woven}
 
 abbrev is_before : Filesystem ℕ → Filesystem ℕ → Bool
 is_before first other = nat_lt first.number other.number

@@ -1,6 +1,6 @@
 -- The namespaces of the mounts of a world in which a tree is attached do not go by the numbers of its copies.
 use Rattle.std.proofs.Common.{arith, ◌≡◌, refl, sym, ap, ◌∙◌, ℕ, nat_eq, eq-eqb, Bool, true, false, cond, ◌&&◌, List, [], ◌∷◌, ◌++◌, map, Option, flat_map}
-use Rattle.vt_spec.proofs.Common.{Copies, Graft, Location, Mount, World, attached_by, common_steps, copies_at, copy_at, folded, graft_of, group_of, map-append, map_twice, mount_at, number-mount_in, parts_of, pushed_up, rest_of, twig_of, with_mount}
+use Rattle.vt_spec.proofs.Common.{Copies, Graft, Location, Mount, World, attached_by, common_steps, copies_at, copy_at, folded, graft_of, group_of, map-append, map_twice, mount_at, number-mount_in, parts_of, moved_onto_copy, rest_of, twig_of, with_mount}
 
 abbrev pub namespaces_in : List (Mount ℕ) → List (Option ℕ)
 namespaces_in mounts = map (λ (mount : Mount ℕ). mount.namespace) mounts
@@ -49,11 +49,11 @@ module _ (world : World ℕ) (place : Location ℕ) (moves : Bool) (tree : List 
     abbrev graft : Graft ℕ
     graft = graft_of nat_eq world new place moves tree
 
-    pushed_stays : (mount : Mount ℕ) → (pushed_up nat_eq world new graft parts mount).namespace ≡ mount.namespace
+    pushed_stays : (mount : Mount ℕ) → (moved_onto_copy nat_eq world new graft parts mount).namespace ≡ mount.namespace
     pushed_stays mount = grind (arith, common_steps)
 
     all_pushed : (mounts : List (Mount ℕ))
-        → namespaces_in (map (pushed_up nat_eq world new graft parts) mounts) ≡ namespaces_in mounts
+        → namespaces_in (map (moved_onto_copy nat_eq world new graft parts) mounts) ≡ namespaces_in mounts
     all_pushed [] = refl
     all_pushed (mount ∷ rest) = λ i. pushed_stays mount i ∷ all_pushed rest i
 
@@ -108,7 +108,7 @@ attached_namespaces world place true tree new =
     let copies = copies_at nat_eq world new (graft world place true tree new) (parts world place true tree)
     (destination world place true tree) in
     let moved = folded (with_mount nat_eq) world.mounts copies in
-    let pushed = map (pushed_up nat_eq world new (graft world place true tree new)
+    let pushed = map (moved_onto_copy nat_eq world new (graft world place true tree new)
     (parts world place true tree)) moved in
     namespaces-append (pushed ++ []) _ ∙ (λ i. (namespaces-append pushed []
     ∙ ap (λ list. list ++ []) (all_pushed world place true tree new moved ∙ namespaces_of_keys moved
@@ -118,7 +118,7 @@ attached_namespaces world place true tree new =
 attached_namespaces world place false tree new =
     let copies = copies_at nat_eq world new (graft world place false tree new) (parts world place false tree)
     (destination world place false tree) in
-    let pushed = map (pushed_up nat_eq world new (graft world place false tree new)
+    let pushed = map (moved_onto_copy nat_eq world new (graft world place false tree new)
     (parts world place false tree)) world.mounts in
     namespaces-append (pushed ++ copies) _ ∙ (λ i. (namespaces-append pushed copies
     ∙ (λ j. all_pushed world place false tree new world.mounts j

@@ -1,6 +1,6 @@
 -- What is attached at a mount that is in no peer group: only the numbers of copies are taken.
 use Rattle.std.proofs.Common.{eq-eqb, ◌≡◌, sym, subst, ◌∙◌, ℕ, ◌+◌, ◌*◌, ◌<◌, nat_eq, Bool, true, false, not, ◌&&◌, List, [], ◌∷◌, ◌++◌, length, map, filter, filter_map, Option, Some, None, option_map, if◌then◌else◌, arith, unwrap_or}
-use Rattle.vt_spec.proofs.Common.{Copies, Fresh, Graft, Location, Mount, Propagation, Twig, World, added_mounts, attach, attached_at, common_steps, copies_from, copy_type, folded, group_of, image, index_from, index_in_rows, index_of, is_member_of, is_top, masters_with, mount_at, nearest_image, number-mount_in, receivers, takes_part, then_some, twig_master, twig_of, when, with_moved_mounts}
+use Rattle.vt_spec.proofs.Common.{Copies, Fresh, Graft, Location, Mount, Propagation, Twig, World, added_mounts, attach, attached_at, common_steps, copies_from, copy_type, folded, group_of, image, index_from, index_in_rows, index_of, is_member_of, is_top, masters_with, mount_at, image_of_nearest_group, number-mount_in, receivers, takes_part, then_some, twig_master, twig_of, when, with_moved_mounts}
 
 -- an index in a list is less than its length
 place_bound : (test : Mount ℕ → Bool) (k : ℕ) (list : List (Mount ℕ)) (j : ℕ) → index_from test k list ≡ Some j
@@ -52,7 +52,7 @@ module _ (world : World ℕ) (place : Location ℕ) (mounts : List (Mount ℕ)) 
   group_by there new twig = if there then twig_master twig else then_some (group_of destination.propagation) (λ group.
       when (not (is_member_of nat_eq group destination)) (
         image nat_eq new destination twig group,
-        nearest_image nat_eq world new (destination ∷ []) destination twig (world.master group),
+        image_of_nearest_group nat_eq world new (destination ∷ []) destination twig (world.master group),
       ))
 
   abbrev pub attached_alone : Bool → Bool → Copies ℕ → World ℕ

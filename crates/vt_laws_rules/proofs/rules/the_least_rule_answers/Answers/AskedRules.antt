@@ -1,6 +1,6 @@
 -- Each call is answered by what it asks: its first rules, its walks, and its last table.
 use Rattle.std.proofs.Common.{arith, ◌≡◌, refl, ap, ◌∙◌, ℕ, nat_eq, Bool, true, false, not, List, [], ◌∷◌, ◌++◌, ◌||◌, Option, Some, None, ok_or, Result, Ok, Err, is_ok}
-use Rattle.vt_spec.proofs.Common.{Call, Fresh, Judgement, Outcome, Permit, Rules, Task, TaskName, World, after, and_then, apply, call_outcome, common_steps, denial, descriptor_at, finished_by, judge_in, layers_walked, looks_of, only_looks, overfills, policy, result_err, task_called, unless, walk_end, words}
+use Rattle.vt_spec.proofs.Common.{Call, Fresh, Judgement, Outcome, Permit, Rules, Task, TaskName, World, after, and_then, apply, call_outcome, common_steps, denial, descriptor_at, finished_unless, judge_in, layers_walked, looks_of, only_looks, overfills, policy, result_err, task_called, unless, walk_end, words}
 use Rattle.vt_laws_rules.specs.Asked.{asked_first, asked_last, first_rules, last_rules, rules_behind}
 use Rattle.vt_spec.specs.Machine.Judging.{Judging, by_option, judging, run, walk_to, walk_to_name}
 use Rattle.vt_spec.specs.declared.errors.Deny.{Deny}
@@ -119,7 +119,7 @@ applied_asked fresh world task judgement result h = grind (arith, common_steps)
 
 finished_asked : (finished : Bool) (before : World ℕ) (name : TaskName) (changed : List ℕ) (outcome : Outcome ℕ)
     (result : Result Bool Deny) → IsAnsweredAs outcome.answer result
-    → IsAnsweredAs (finished_by nat_eq finished before name changed outcome).answer result
+    → IsAnsweredAs (finished_unless nat_eq finished before name changed outcome).answer result
 finished_asked finished before name changed outcome result e = grind (arith, common_steps)
 
 -- a task's call is answered by what it asks

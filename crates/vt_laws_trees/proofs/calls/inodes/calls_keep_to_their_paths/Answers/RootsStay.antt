@@ -1,6 +1,6 @@
 -- The root of a filesystem stays its root, as long as the filesystem is there.
 use Rattle.std.proofs.Common.{arith, ◌≡◌, refl, sym, subst, ◌∙◌, inl, inr, ◌⊎◌, true≢false, ℕ, ◌+◌, nat_eq, eqb-true, eq-eqb, Bool, true, false, cond, ◌||◌, List, [], ◌∷◌, ◌++◌, map, filter, find, Option, Some, None, option_map, Ok, Err, ok_or}
-use Rattle.vt_spec.proofs.Common.{AddName, Change, CopyUp, FileTree, Filesystem, Fresh, Judgement, Layer, Location, Make, Merge, Move, Node, Outcome, Overlay, Permit, Remove, SetAttr, SetBytes, SetMark, Stack, Task, ToChange, ToEnterNamespace, ToExit, ToMake, ToMountOverlay, ToMountPlain, ToOpen, ToOpenNew, ToRemoveDirectory, ToRename, ToSetType, ToUnmount, ToUnmountLazily, ToUnshare, ToWritePart, World, after, apply, changed, common_steps, copied_each, copied_up, copy_of, denial, denied, evens, filesystem_at, filesystem_changed, filesystem_lives, filesystem_numbered, filesystems-taken_away, filesystems-without_replaced, filesystems_changed_by, finished, finished_by, is_copied_up, is_in_upper, is_overlay, judge_in, line_to, merge_changed, merge_of, merge_with_link, merge_with_moved, merge_with_new, merge_without_name, mount_at, no_filesystem, odds, only_looks, only_used, overlay_changed, plain_filesystem, pwritten, raised_if_changed, replaced_if_numbered, same_Some, settled, stack_of, task_called, unshared, upper_directory_named, upper_of, with_change, with_copy, with_moved, without_contents, without_dead_filesystems, without_dead_in, without_dead_mounts, without_replaced, without_task}
+use Rattle.vt_spec.proofs.Common.{AddName, Change, CopyUp, FileTree, Filesystem, Fresh, Judgement, Layer, Location, Make, Merge, Move, Node, Outcome, Overlay, Permit, Remove, SetAttr, SetBytes, SetMark, Stack, Task, ToChange, ToEnterNamespace, ToExit, ToMake, ToMountOverlay, ToMountPlain, ToOpen, ToOpenNew, ToRemoveDirectory, ToRename, ToSetType, ToUnmount, ToUnmountLazily, ToUnshare, ToWritePart, World, after, apply, changed, common_steps, copied_each, copied_up, copy_of, denial, denied, evens, filesystem_at, filesystem_changed, filesystem_lives, filesystem_numbered, filesystems-taken_away, filesystems-without_replaced, filesystems_changed_by, finished, finished_unless, is_copied_up, is_in_upper, is_overlay, judge_in, line_to, merge_changed, merge_of, merge_with_link, merge_with_moved, merge_with_new, merge_without_name, mount_at, no_filesystem, odds, only_looks, only_used, overlay_changed, plain_filesystem, pwritten, raised_if_changed, replaced_if_numbered, same_Some, settled, stack_of, task_called, unshared, upper_directory_named, upper_of, with_change, with_copy, with_moved, without_contents, without_dead_filesystems, without_dead_in, without_dead_mounts, without_replaced, without_task}
 use Rattle.vt_laws_trees.specs.Calls.Reached.{RootsStay, root_in}
 use Rattle.vt_laws_rules.proofs.judged.CallsJudged.{policy_judges_then_applies}
 use Rattle.vt_spec.specs.declared.errors.Rule.TheVariants.{S2}
@@ -260,7 +260,7 @@ roots_stay fresh world name call filesystem root is =
 
     finished_stays : (looks : Bool) (changes : List ℕ) (outcome : Outcome ℕ)
         → root_in outcome.world filesystem ≡ Some root
-        → Stays (finished_by nat_eq looks world name changes outcome).world
+        → Stays (finished_unless nat_eq looks world name changes outcome).world
     finished_stays true changes outcome h = inl h
     finished_stays false changes outcome h = grind (arith, common_steps, settled_root, mapped, raises)
 

@@ -1,6 +1,6 @@
 -- Where no mount is in a group none is afterwards, if none is made shared.
 use Rattle.std.proofs.Common.{arith, ◌≡◌, refl, sym, ap, subst, ⊎_elim, true≢false, ℕ, zero, suc, nat_eq, Bool, true, false, cond, List, [], ◌∷◌, ◌++◌, map, filter, flat_map, length, Option, Some, None, All, option_map}
-use Rattle.vt_spec.proofs.Common.{Change, Copies, CopyUp, Filesystem, Fresh, Location, Make, Mount, Move, Permit, Private, Propagation, Remove, SetBytes, Shared, Slave, Task, ToBind, ToChange, ToEnterNamespace, ToExit, ToMake, ToMountOverlay, ToMountPlain, ToMove, ToOpen, ToOpenNew, ToPivot, ToPrivate, ToRemoveDirectory, ToRename, ToSetFlags, ToSetType, ToShared, ToSlave, ToUnbindable, ToUnmount, ToUnmountLazily, ToUnshare, ToWritePart, Twig, TypeWord, Unbindable, World, added_mounts, after_going, all-filter, all-map, and_parts, apply, attach, bind_tree, bindable_children, bindable_tree, bytes_in, children, common_steps, copied_mount, copies_from, deepest_first, detached, evens, filesystem_at, filesystem_changed, filesystems-taken_away, folded, holds_of, inherited, is_copied_up, is_in_ended, is_overlay, list_all, mount_at, mount_lives, mount_numbered, mount_point_left, mount_tree, mounts_of, named_mounts, namespace_entered, namespaces_ended, new_mount, node_at, numbers_by, odds, overwritten, pivoted_mount, plain_filesystem, pwritten, regrouped, retyped_mount, settled, stands_on, stands_under, taken_away, type_after, unmounted_if_there, unshared, with_change, with_copy, with_mount, with_mounts, with_moved_mounts, with_new_filesystem, with_new_groups, with_type, without_mounts_on, without_replaced, without_task}
+use Rattle.vt_spec.proofs.Common.{Change, Copies, CopyUp, Filesystem, Fresh, Location, Make, Mount, Move, Permit, Private, Propagation, Remove, SetBytes, Shared, Slave, Task, ToBind, ToChange, ToEnterNamespace, ToExit, ToMake, ToMountOverlay, ToMountPlain, ToMove, ToOpen, ToOpenNew, ToPivot, ToPrivate, ToRemoveDirectory, ToRename, ToSetFlags, ToSetType, ToShared, ToSlave, ToUnbindable, ToUnmount, ToUnmountLazily, ToUnshare, ToWritePart, Twig, TypeWord, Unbindable, World, added_mounts, after_going, all-filter, all-map, and_parts, apply, attach, bind_tree, bindable_children, bindable_tree, bytes_in, children, common_steps, copied_mount, copies_from, deepest_first, detached, evens, filesystem_at, filesystem_changed, filesystems-taken_away, folded, holds_of, inherited, is_copied_up, is_in_ended, is_overlay, list_all, mount_at, mount_lives, mount_numbered, inherited_mount_point, mount_tree, mounts_of, named_mounts, namespace_entered, namespaces_ended, new_mount, node_at, numbers_by, odds, overwritten, pivoted_mount, plain_filesystem, pwritten, regrouped, retyped_mount, settled, stands_on, stands_under, taken_away, type_after, unmounted_if_there, unshared, with_change, with_copy, with_mount, with_mounts, with_moved_mounts, with_new_filesystem, with_new_groups, with_type, without_mounts_on, without_replaced, without_task}
 use Rattle.vt_laws_mounts.proofs.letting_go.Lists.{Among, among-from_filter, among-from_flat_map, among_from_list_all, list_all_from_among}
 use Rattle.vt_laws_trees.proofs.runs.answered.PlainStays.{plain_numbered}
 use Rattle.vt_laws_worlds.proofs.permits.taken.TakenAttached.{at_destination, copy_by, twigs}
@@ -38,7 +38,7 @@ taken_free world gone is = regrouped_free (with_mounts world (map (after_going n
     (all-map free (after_going nat_eq world gone) (λ mount e. by mount e _) world.mounts is)
   where
     by : (mount : Mount ℕ) → free mount ≡ true → (b : Bool) → free (cond b (detached mount)
-        (record mount { mount_point = option_map (mount_point_left nat_eq world gone) mount.mount_point })) ≡ true
+        (record mount { mount_point = option_map (inherited_mount_point nat_eq world gone) mount.mount_point })) ≡ true
     by mount e true = refl
     by mount e false = e
 
