@@ -89,7 +89,7 @@ module _ (trees : Filesystems) (layers : List LayerRef) (are : AreLayers trees l
               ≡ Some (record { layer = 0 + place; object = object }) → (place ≡ 0) × (number ≡ object)
           seen_is white number object place e = grind (arith, common_steps)
 
-  module _ (pieces : List Piece) (copies : AreCopiesFrom trees layers overlay front pieces)
+  module _ (w : Bool) (pieces : List Piece) (copies : AreCopiesFrom w trees layers overlay front pieces)
       (whole : front ++ names_of pieces ≡ names) where
     first_nowhere : (pieces : List Piece) → front ++ names_of pieces ≡ names
         → (fresh : Fresh ℕ) (mounter : Credentials) (lowers : List LayerRef)
@@ -101,25 +101,26 @@ module _ (trees : Filesystems) (layers : List LayerRef) (are : AreLayers trees l
         (end piece.copy.name.items (name_after names index piece.copy.name.items (names_of rest) few whole))
 
     pub are_planned_so : (fresh : Fresh ℕ) (mounter : Credentials) (lowers : List LayerRef) → layers ≡ upper ∷ lowers
-        → ArePlannedBy fresh mounter trees upper lowers front pieces
-    are_planned_so fresh mounter lowers is = are_planned fresh mounter trees upper lowers overlay front pieces
-        (subst (λ l. AreCopiesFrom trees l overlay front pieces) is copies)
+        → ArePlannedBy w fresh mounter trees upper lowers front pieces
+    are_planned_so fresh mounter lowers is = are_planned fresh mounter trees upper lowers overlay w front pieces
+        (subst (λ l. AreCopiesFrom w trees l overlay front pieces) is copies)
         (first_nowhere pieces whole fresh mounter lowers)
 
     module _ (nested : AreNested pieces) (births : BirthsValue) (of : AreBirthsOf trees layers overlay births)
         (room : ℕ) (has_room : 0 < length pieces
-        → length (entries_in ((files_at trees directory.filesystem.count).tree.node (inode_of directory))) < room) where
+        → length (entries_in ((files_at trees directory.filesystem.count).tree.node (inode_of directory))) < room)
+        (inodes more : ℕ) (many_inodes : length pieces ≤ inodes) (many_births : length pieces ≤ more) where
       abbrev f : ℕ
       f = directory.filesystem.count
 
       abbrev promised : Filesystems
-      promised = with_changed f (promising (length pieces)) trees
+      promised = with_changed f (promising inodes) trees
 
       same_files : files_at promised f ≡ files_at trees upper.directory.filesystem.count
-      same_files = promised_files f (length pieces) trees
+      same_files = promised_files f inodes trees
           ∙ ap (λ (id : FilesystemId). files_at trees id.count) own
 
-      first_fits : (pieces : List Piece) → AreCopiesFrom trees layers overlay front pieces
+      first_fits : (pieces : List Piece) → AreCopiesFrom w trees layers overlay front pieces
           → front ++ names_of pieces ≡ names → (0 < length pieces
           → length (entries_in ((files_at trees directory.filesystem.count).tree.node (inode_of directory))) < room)
           → (after : Filesystems) → files_at after f ≡ files_at trees upper.directory.filesystem.count
@@ -136,7 +137,7 @@ module _ (trees : Filesystems) (layers : List LayerRef) (are : AreLayers trees l
             (ap (λ (id : FilesystemId). files_at trees id.count) own ∙ sym same) (has_room (omega arith));
       }
 
-      ready_promised : AreReady pieces directory promised (record births { promised = births.promised + length pieces })
+      ready_promised : AreReady pieces directory promised (record births { promised = births.promised + more })
       ready_promised = record {
         entries = subst (λ (files : Rattle.vt_spec.proofs.Common.FileTree ℕ). EntriesAreThere files.tree)
             (sym same_files) (entries_are_there (files_at trees upper.directory.filesystem.count).tree
@@ -146,22 +147,16 @@ module _ (trees : Filesystems) (layers : List LayerRef) (are : AreLayers trees l
             ∙ ap (λ (id : FilesystemId). is_some ((files_at trees upper.directory.filesystem.count).tree.node
             (Rattle.vt_location.specs.Numbers.inode_number id.count slot))) own ∙ of.there upper top slot node e;
         many_inodes =
-            let more = promised_more f (length pieces) trees (is_there trees f (inode_of upper.directory)
+            let after = promised_more f inodes trees (is_there trees f (inode_of upper.directory)
             (subst (λ (id : FilesystemId). IsDirectory (files_at trees id.count).tree (inode_of upper.directory))
-            (sym own) (are 0 upper top).directory)) in omega (arith, more);
-        many_births = omega arith;
+            (sym own) (are 0 upper top).directory)) in omega (arith, after, many_inodes);
+        many_births = omega (arith, many_births);
         nested = nested;
-        below = all_below trees layers overlay front pieces copies;
-        new = all_new trees layers overlay births of front pieces copies;
-        apart = all_apart trees layers overlay are front pieces copies nested;
+        below = all_below trees layers overlay w front pieces copies;
+        new = all_new trees layers overlay w births of front pieces copies;
+        apart = all_apart trees layers overlay are w front pieces copies nested;
       }
 
-      pub is_ready : (new : Filesystems) (births_new : BirthsValue) → new ≡ promised
-          → births_new ≡ record births { promised = births.promised + length pieces }
-          → FirstFits pieces room directory new × AreReady pieces directory new births_new
-      is_ready new births_new inodes births_are = (
-        first_fits pieces copies whole has_room new (ap (λ t. files_at t f) inodes ∙ same_files),
-        subst (λ b. AreReady pieces directory new b) (sym births_are)
-            (subst (λ t. AreReady pieces directory t (record births { promised = births.promised + length pieces }))
-            (sym inodes) ready_promised),
-      )
+      pub is_ready : FirstFits pieces room directory promised
+          × AreReady pieces directory promised (record births { promised = births.promised + more })
+      is_ready = (first_fits pieces copies whole has_room promised same_files, ready_promised)

@@ -22,24 +22,27 @@ use Rattle.vt_overlay.specs.MergedTree.{AreLayers, birth_at, node_born, rank_at,
 use Rattle.vt_births.proofs.Nodes.{same_node-is}
 use Rattle.vt_births.specs.Births.{BirthsValue, copy_of, is_below, is_born_below}
 use Rattle.vt_laws_worlds.specs.Seen.CopySteps.{ArePlanned, Copy}
-use Rattle.vt_copyup.specs.Copied.{bare}
+use Rattle.vt_copyup.specs.Copied.{copied}
 use Rattle.vt_copyup.specs.Planned.{AreBirthsOf, AreCopiesFrom, ArePlannedBy, IsCopyIn, IsNodeAt, names_of, stack_of}
 use Rattle.vt_copyup.specs.Plans.{AreApart, AreNested, EntriesAreThere}
 use Rattle.vt_copyup.specs.declared.plans.Piece.{Piece}
 use Rattle.vt_copyup.proofs.Ways.{nowhere_next}
 
 -- a directory is copied as one
-directory-bare : (node : Node ℕ) → is_directory (kind_of (bare node).content) ≡ true
+directory-copied : (with_bytes : Bool) (node : Node ℕ) → is_directory (kind_of (copied with_bytes node).content) ≡ true
     → is_directory (kind_of node.content) ≡ true
-directory-bare node = by node.content
+directory-copied with_bytes node = by with_bytes node.content
   where
-    by : (content : Content ℕ)
-        → is_directory (kind_of (bare (record { attr = node.attr; content = content })).content) ≡ true
+    by : (b : Bool) (content : Content ℕ)
+        → is_directory (kind_of (copied b (record { attr = node.attr; content = content })).content) ≡ true
         → is_directory (kind_of content) ≡ true
-    by (Directory parent entries opaque) d = refl
-    by (Regular bytes) d = d
-    by (Symlink text) d = d
-    by Whiteout d = d
+    by b (Directory parent entries opaque) d = refl
+    by true (Regular bytes) d = d
+    by false (Regular bytes) d = d
+    by true (Symlink text) d = d
+    by false (Symlink text) d = d
+    by true Whiteout d = d
+    by false Whiteout d = d
 
 -- in a tree each entry leads to what is there
 pub entries_are_there : (tree : Tree ℕ) → Rattle.vt_spec.proofs.Common.IsTree tree → EntriesAreThere tree
@@ -60,22 +63,22 @@ module _ (trees : Filesystems) (layers : List LayerRef) (overlay : FilesystemId)
       (slot_at trees at.lower (Rattle.vt_spec.proofs.Common.without_last (path ++ name ∷ [])))
       (rank_at trees at.lower (path ++ name ∷ [])))) (root_of_longer path name)
 
-  pub all_below : (path : List (List ℕ)) (pieces : List Piece) → AreCopiesFrom trees layers overlay path pieces
+  pub all_below : (w : Bool) (path : List (List ℕ)) (pieces : List Piece) → AreCopiesFrom w trees layers overlay path pieces
       → All (λ (piece : Piece). is_born_below piece.copy.born ≡ true) pieces
-  all_below path [] copies = All-nil (λ (piece : Piece). is_born_below piece.copy.born ≡ true)
-  all_below path (piece ∷ rest) copies = All-cons (λ (piece : Piece). is_born_below piece.copy.born ≡ true) piece rest
+  all_below w path [] copies = All-nil (λ (piece : Piece). is_born_below piece.copy.born ≡ true)
+  all_below w path (piece ∷ rest) copies = All-cons (λ (piece : Piece). is_born_below piece.copy.born ≡ true) piece rest
       (below_there path piece.copy.name.items piece.copy.born copies.0.born)
-      (all_below (path ++ piece.copy.name.items ∷ []) rest copies.1)
+      (all_below w (path ++ piece.copy.name.items ∷ []) rest copies.1)
 
   -- it has no copy yet
-  pub all_new : (births : BirthsValue) → AreBirthsOf trees layers overlay births → (path : List (List ℕ))
-      (pieces : List Piece) → AreCopiesFrom trees layers overlay path pieces
+  pub all_new : (w : Bool) (births : BirthsValue) → AreBirthsOf trees layers overlay births → (path : List (List ℕ))
+      (pieces : List Piece) → AreCopiesFrom w trees layers overlay path pieces
       → All (λ (piece : Piece). copy_of births piece.copy.born ≡ None) pieces
-  all_new births of path [] copies = All-nil (λ (piece : Piece). copy_of births piece.copy.born ≡ None)
-  all_new births of path (piece ∷ rest) copies =
+  all_new w births of path [] copies = All-nil (λ (piece : Piece). copy_of births piece.copy.born ≡ None)
+  all_new w births of path (piece ∷ rest) copies =
       All-cons (λ (piece : Piece). copy_of births piece.copy.born ≡ None) piece rest
       (of.new (path ++ piece.copy.name.items ∷ []) piece.copy.born copies.0.born)
-      (all_new births of (path ++ piece.copy.name.items ∷ []) rest copies.1)
+      (all_new w births of (path ++ piece.copy.name.items ∷ []) rest copies.1)
 
   -- a node that is shown in a directory is at one path
   module _ (are : AreLayers trees layers) where
@@ -116,11 +119,11 @@ module _ (trees : Filesystems) (layers : List LayerRef) (overlay : FilesystemId)
         let longer = ap length same ∙ length-append path (word ∷ more) in absurd (let no : ⊥ = omega (arith, longer) in no)
 
     -- the inode of a node that is shown
-    inode_is : (path : List (List ℕ)) (copy : Rattle.vt_copyup.specs.declared.plans.PlannedCopy.PlannedCopy)
-        → (in_path : IsCopyIn trees layers overlay path copy)
+    inode_is : (w : Bool) (path : List (List ℕ)) (copy : Rattle.vt_copyup.specs.declared.plans.PlannedCopy.PlannedCopy)
+        → (in_path : IsCopyIn w trees layers overlay path copy)
         → is_directory (kind_of copy.node.content) ≡ true
         → IsDirectory (layer_of trees in_path.born.lower).tree in_path.born.object
-    inode_is path copy in_path directory =
+    inode_is w path copy in_path directory =
         let stack = layers_of trees layers in
         let at = in_path.born in
         let node : then_some (shown stack (path ++ copy.name.items ∷ [])) (layer_node stack)
@@ -129,21 +132,21 @@ module _ (trees : Filesystems) (layers : List LayerRef) (overlay : FilesystemId)
         ∙ ap (λ o. then_some o (λ (layer : OpenLayer ℕ). layer.tree.node at.object))
         (slice_get-map (layer_of trees) layers (suc at.place) ∙ ap (option_map (layer_of trees)) at.layer) in
         ap is_directory_node (sym node ∙ in_path.shows)
-        ∙ directory-bare in_path.inode (subst (λ (n : Node ℕ). is_directory (kind_of n.content) ≡ true) in_path.node
+        ∙ directory-copied w in_path.inode (subst (λ (n : Node ℕ). is_directory (kind_of n.content) ≡ true) in_path.node
         directory)
 
     -- the first of nested copies differs from all that follow
-    module _ (path : List (List ℕ)) (piece : Piece) (copy : IsCopyIn trees layers overlay path piece.copy)
+    module _ (w : Bool) (path : List (List ℕ)) (piece : Piece) (copy : IsCopyIn w trees layers overlay path piece.copy)
         (directory : is_directory (kind_of piece.copy.node.content) ≡ true) where
       others : (more : List (List ℕ)) (rest : List Piece)
-          → AreCopiesFrom trees layers overlay ((path ++ piece.copy.name.items ∷ []) ++ more) rest
+          → AreCopiesFrom w trees layers overlay ((path ++ piece.copy.name.items ∷ []) ++ more) rest
           → All (λ (other : Piece). same_node piece.copy.born other.copy.born ≡ false) rest
       others more [] copies = All-nil (λ (other : Piece). same_node piece.copy.born other.copy.born ≡ false)
       others more (other ∷ rest) copies =
           All-cons (λ (other : Piece). same_node piece.copy.born other.copy.born ≡ false) other rest
           (differs (same_node piece.copy.born other.copy.born) refl)
           (others (more ++ other.copy.name.items ∷ []) rest
-          (subst (λ p. AreCopiesFrom trees layers overlay p rest)
+          (subst (λ p. AreCopiesFrom w trees layers overlay p rest)
           (append_assoc (path ++ piece.copy.name.items ∷ []) more (other.copy.name.items ∷ [])) copies.1))
         where
           longer : path ++ piece.copy.name.items ∷ []
@@ -158,18 +161,18 @@ module _ (trees : Filesystems) (layers : List LayerRef) (overlay : FilesystemId)
           differs false e = e
           differs true e = absurd (longer (one_place path ((path ++ piece.copy.name.items ∷ []) ++ more)
               piece.copy.name.items other.copy.name.items piece.copy.born other.copy.born copy.born copies.0.born
-              (inode_is path piece.copy copy directory) (same_node-is piece.copy.born other.copy.born e)))
+              (inode_is w path piece.copy copy directory) (same_node-is piece.copy.born other.copy.born e)))
 
-    pub all_apart : (path : List (List ℕ)) (pieces : List Piece) → AreCopiesFrom trees layers overlay path pieces
+    pub all_apart : (w : Bool) (path : List (List ℕ)) (pieces : List Piece) → AreCopiesFrom w trees layers overlay path pieces
         → AreNested pieces → AreApart pieces
-    all_apart path [] copies nested = tt
-    all_apart path (piece ∷ []) copies nested =
+    all_apart w path [] copies nested = tt
+    all_apart w path (piece ∷ []) copies nested =
         (All-nil (λ (other : Piece). same_node piece.copy.born other.copy.born ≡ false), tt)
-    all_apart path (piece ∷ next ∷ rest) copies nested = (
-      others path piece copies.0 nested.0 [] (next ∷ rest)
-          (subst (λ p. AreCopiesFrom trees layers overlay p (next ∷ rest))
+    all_apart w path (piece ∷ next ∷ rest) copies nested = (
+      others w path piece copies.0 nested.0 [] (next ∷ rest)
+          (subst (λ p. AreCopiesFrom w trees layers overlay p (next ∷ rest))
           (sym (append-nil (path ++ piece.copy.name.items ∷ []))) copies.1),
-      all_apart (path ++ piece.copy.name.items ∷ []) (next ∷ rest) copies.1 nested.2,
+      all_apart w (path ++ piece.copy.name.items ∷ []) (next ∷ rest) copies.1 nested.2,
     )
 
 -- The definitions plan these copies: the upper layer leads nowhere at the first, so at none.
@@ -189,13 +192,13 @@ module _ (fresh : Fresh ℕ) (mounter : Credentials) (trees : Filesystems) (uppe
   next_leads_nowhere path (piece ∷ rest) none =
       nowhere_next tree (inode_of upper.directory) path piece.copy.name.items none
 
-  pub are_planned : (path : List (List ℕ)) (pieces : List Piece)
-      → AreCopiesFrom trees (upper ∷ lowers) overlay path pieces → FirstLeadsNowhere path pieces
-      → ArePlannedBy fresh mounter trees upper lowers path pieces
-  are_planned path [] copies none = record { copies = []; planned = tt; names = refl; nodes = refl }
-  are_planned path (piece ∷ rest) copies none =
+  pub are_planned : (w : Bool) (path : List (List ℕ)) (pieces : List Piece)
+      → AreCopiesFrom w trees (upper ∷ lowers) overlay path pieces → FirstLeadsNowhere path pieces
+      → ArePlannedBy w fresh mounter trees upper lowers path pieces
+  are_planned w path [] copies none = record { copies = []; planned = tt; names = refl; nodes = refl }
+  are_planned w path (piece ∷ rest) copies none =
       let longer = path ++ piece.copy.name.items ∷ [] in
-      let after = are_planned longer rest copies.1 (next_leads_nowhere longer rest none) in
+      let after = are_planned w longer rest copies.1 (next_leads_nowhere longer rest none) in
       let copy : Copy = record { name = piece.copy.name.items; node = copies.0.inode; number = fresh (length longer) } in
       record {
         copies = copy ∷ after.copies;

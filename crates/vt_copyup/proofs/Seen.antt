@@ -23,7 +23,7 @@ use Rattle.vt_overlay.specs.declared.merge.layers.LayerRef.{LayerRef}
 use Rattle.vt_overlay.specs.Merge.EntryValue.{IsFirstEntry, entry_shown}
 use Rattle.vt_overlay.specs.Merge.LayerValue.{layer_of, layers_of, opened}
 use Rattle.vt_overlay.specs.MergedTree.{AreLayers, birth_at, node_born, slot_at}
-use Rattle.vt_copyup.specs.Copied.{bare}
+use Rattle.vt_copyup.specs.Copied.{bare, content_copied, copied}
 use Rattle.vt_copyup.specs.Planned.{IsCopyIn, IsNodeAt}
 use Rattle.vt_copyup.specs.declared.plans.PlannedCopy.{PlannedCopy}
 
@@ -37,6 +37,11 @@ bare-seen f node = by node.content
     by (Regular bytes) = refl
     by (Symlink text) = refl
     by Whiteout = refl
+
+pub copied-seen : (with_bytes : Bool) (f : ℕ) (node : Node ℕ)
+    → copied with_bytes (node_seen f node) ≡ copied with_bytes node
+copied-seen with_bytes f node =
+    ap (λ (b : Node ℕ). record { attr = b.attr; content = content_copied with_bytes b.content }) (bare-seen f node)
 
 module _ (trees : Filesystems) (layers : List LayerRef) (are : AreLayers trees layers) where
   abbrev stack : List (OpenLayer ℕ)

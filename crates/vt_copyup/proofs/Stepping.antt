@@ -74,7 +74,7 @@ last_number_is [] directory = refl
 last_number_is (first ∷ made) directory =
     last_number_is made (record { filesystem = directory.filesystem; slot = first.slot })
 
-last_filesystem : (made : List Made) (directory : InodeRef)
+pub last_filesystem : (made : List Made) (directory : InodeRef)
     → (last_made directory made).filesystem ≡ directory.filesystem
 last_filesystem [] directory = refl
 last_filesystem (first ∷ made) directory =

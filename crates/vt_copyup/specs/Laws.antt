@@ -1,5 +1,5 @@
 -- What plans make, as the definitions see it: the kernel's overlayfs document, "upper and lower" (copy_up).
-use Rattle.std.specs.Prelude.{List, [], length, map, suc, ℕ, ⊤, ◌∷◌, ◌≡◌}
+use Rattle.std.specs.Prelude.{List, [], length, map, suc, true, ℕ, ⊤, ◌∷◌, ◌≡◌}
 use Rattle.vt_spec.specs.Lists.{Fresh}
 use Rattle.vt_spec.specs.Machine.CopyUp.{Merge}
 use Rattle.vt_spec.specs.Rights.{Credentials}
@@ -27,7 +27,7 @@ abbrev pub PlansMakeCopies : Type 0
 PlansMakeCopies =
     (fresh : Fresh ℕ) (mounter : Credentials) (merge : Merge ℕ) (trees : Filesystems) (upper : LayerRef)
     (lowers : List LayerRef) (overlay : FilesystemId) (path : List (List ℕ)) (plan : Plan) (made : List Made)
-    → (is : IsPlanOf trees upper lowers overlay path plan)
+    → (is : IsPlanOf true trees upper lowers overlay path plan)
     → IsWhole (stack_of trees upper lowers mounter) merge
     → merge.upper ≡ files_at trees upper.directory.filesystem.count → AreNew fresh merge.upper
     → map (λ (one : Made). one.copy) made ≡ copies_of (in_turn plan)

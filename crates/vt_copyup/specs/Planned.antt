@@ -1,5 +1,5 @@
 -- What is planned of a path: the kernel's overlayfs document, "upper and lower" (copy_up).
-use Rattle.std.specs.Prelude.{List, None, Some, [], map, suc, slice_get, ℕ, ⊤, ◌++◌, ◌∷◌, ◌≡◌}
+use Rattle.std.specs.Prelude.{Bool, List, None, Some, [], map, suc, slice_get, ℕ, ⊤, ◌++◌, ◌∷◌, ◌≡◌}
 use Rattle.vt_spec.specs.Lists.{Fresh, then_some}
 use Rattle.vt_spec.specs.Machine.CopyUp.{Stack}
 use Rattle.vt_spec.specs.Machine.Layers.{at_path, shown}
@@ -16,7 +16,7 @@ use Rattle.vt_overlay.specs.Merge.LayerValue.{layer_of, layers_of}
 use Rattle.vt_overlay.specs.MergedTree.{node_born}
 use Rattle.vt_laws_worlds.specs.Seen.CopySteps.{ArePlanned, Copy}
 use Rattle.vt_births.specs.Births.{BirthsValue, copy_of}
-use Rattle.vt_copyup.specs.Copied.{bare}
+use Rattle.vt_copyup.specs.Copied.{copied}
 use Rattle.vt_copyup.specs.Plans.{CopiesAreThere, in_turn}
 use Rattle.vt_copyup.specs.declared.plans.Piece.{Piece}
 use Rattle.vt_copyup.specs.declared.plans.Plan.{Plan}
@@ -47,37 +47,37 @@ pub record AreBirthsOf (trees : Filesystems) (layers : List LayerRef) (overlay :
       → copy_of births node ≡ None
 
 -- A copy is that of what the layers show under its name in a directory, and of the node there.
-pub record IsCopyIn (trees : Filesystems) (layers : List LayerRef) (overlay : FilesystemId) (front : List (List ℕ))
+pub record IsCopyIn (with_bytes : Bool) (trees : Filesystems) (layers : List LayerRef) (overlay : FilesystemId) (front : List (List ℕ))
     (copy : PlannedCopy) : Type 0 where
   pub inode : Node ℕ
   pub shows : then_some (shown (layers_of trees layers) (front ++ copy.name.items ∷ []))
       (layer_node (layers_of trees layers)) ≡ Some inode
-  pub node : copy.node ≡ bare inode
+  pub node : copy.node ≡ copied with_bytes inode
   pub born : IsNodeAt trees layers overlay (front ++ copy.name.items ∷ []) copy.born
 
 -- so is each copy of a plan, the first in a directory and each further one in that before
-abbrev pub AreCopiesFrom : Filesystems → List LayerRef → FilesystemId → List (List ℕ) → List Piece → Type 0
-AreCopiesFrom trees layers overlay front [] = ⊤
-AreCopiesFrom trees layers overlay front (piece ∷ rest) =
-    IsCopyIn trees layers overlay front piece.copy
-    × AreCopiesFrom trees layers overlay (front ++ piece.copy.name.items ∷ []) rest
+abbrev pub AreCopiesFrom : (with_bytes : Bool) → Filesystems → List LayerRef → FilesystemId → List (List ℕ) → List Piece → Type 0
+AreCopiesFrom with_bytes trees layers overlay front [] = ⊤
+AreCopiesFrom with_bytes trees layers overlay front (piece ∷ rest) =
+    IsCopyIn with_bytes trees layers overlay front piece.copy
+    × AreCopiesFrom with_bytes trees layers overlay (front ++ piece.copy.name.items ∷ []) rest
 
 -- the names of a plan's copies
 abbrev pub names_of : List Piece → List (List ℕ)
 names_of pieces = map (λ (piece : Piece). piece.copy.name.items) pieces
 
 -- The definitions plan these copies, from a path on: the same names, and inodes that are copied alike.
-pub record ArePlannedBy (fresh : Fresh ℕ) (mounter : Credentials) (trees : Filesystems) (upper : LayerRef)
+pub record ArePlannedBy (with_bytes : Bool) (fresh : Fresh ℕ) (mounter : Credentials) (trees : Filesystems) (upper : LayerRef)
     (lowers : List LayerRef) (front : List (List ℕ)) (pieces : List Piece) : Type 0 where
   pub copies : List Copy
   pub planned : ArePlanned fresh (stack_of trees upper lowers mounter)
       (files_at trees upper.directory.filesystem.count) front copies
   pub names : map (λ (copy : Copy). copy.name) copies ≡ names_of pieces
-  pub nodes : map (λ (copy : Copy). bare copy.node) copies ≡ map (λ (piece : Piece). piece.copy.node) pieces
+  pub nodes : map (λ (copy : Copy). copied with_bytes copy.node) copies ≡ map (λ (piece : Piece). piece.copy.node) pieces
 
 -- A plan is that of a path: of the longest front that the upper layer has it begins in the inode there, and it copies what
 -- the layers show at each further front.
-pub record IsPlanOf (trees : Filesystems) (upper : LayerRef) (lowers : List LayerRef) (overlay : FilesystemId)
+pub record IsPlanOf (with_bytes : Bool) (trees : Filesystems) (upper : LayerRef) (lowers : List LayerRef) (overlay : FilesystemId)
     (path : List (List ℕ)) (plan : Plan) : Type 0 where
   pub front : List (List ℕ)
   pub whole : front ++ names_of (in_turn plan) ≡ path
@@ -85,5 +85,5 @@ pub record IsPlanOf (trees : Filesystems) (upper : LayerRef) (lowers : List Laye
       ≡ Some (inode_of plan.directory)
   pub filesystem : plan.directory.filesystem ≡ upper.directory.filesystem
   pub planned : (fresh : Fresh ℕ) (mounter : Credentials)
-      → ArePlannedBy fresh mounter trees upper lowers front (in_turn plan)
-  pub copies : AreCopiesFrom trees (upper ∷ lowers) overlay front (in_turn plan)
+      → ArePlannedBy with_bytes fresh mounter trees upper lowers front (in_turn plan)
+  pub copies : AreCopiesFrom with_bytes trees (upper ∷ lowers) overlay front (in_turn plan)

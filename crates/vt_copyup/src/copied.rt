@@ -1,7 +1,7 @@
 //! What is copied of an inode: the kernel's overlayfs document, "non-directories".
 ghost use Rattle.std.specs.Prelude.{◌≡◌, IfOk};
 ghost use Rattle.vt_laws_worlds.specs.Merging.UpperChanges.{copy_node};
-ghost use Rattle.vt_copyup.specs.Copied.{bare};
+ghost use Rattle.vt_copyup.specs.Copied.{copied};
 
 use std::alloc::{AllocError, Global};
 use std::marker::Model;
@@ -35,14 +35,18 @@ impl Model for CopiedNode {
 }
 
 impl CopiedNode {
-    /// What is copied of a node, in memory of its own.
-    pub fn of(alloc: Global, node: &Node) -> Result<Self, AllocError>
-        ensures { IfOk result (λ copy. copy ≡ bare node.now) }
+    /// What is copied of a node, in memory of its own: with the bytes of a file, or without them where it is to be
+    /// written whole.
+    pub fn of(alloc: Global, node: &Node, with_bytes: bool) -> Result<Self, AllocError>
+        ensures { IfOk result (λ copy. copy ≡ copied with_bytes node.now) }
     {
         let content = match node.kind() {
             Kind::Dir => CopiedContent::Directory,
-            Kind::File => CopiedContent::Regular {
+            Kind::File if with_bytes => CopiedContent::Regular {
                 bytes: copied_bytes(alloc, node.bytes())?,
+            },
+            Kind::File => CopiedContent::Regular {
+                bytes: Vec::new(alloc),
             },
             Kind::Symlink => CopiedContent::Symlink {
                 text: copied_bytes(alloc, node.bytes())?,

@@ -9,5 +9,5 @@ mod plans;
 
 pub use copied::CopiedNode;
 pub use laws::{plans_make_copies, promises_are_given_back};
-pub use planning::plan;
+pub use planning::{give_back, plan, promise};
 pub use plans::{Plan, PlannedCopy};

@@ -1,5 +1,5 @@
 //! How a copy is planned: what the upper layer lacks on the way to an object, and what the layers show there.
-ghost use Rattle.std.specs.Prelude.{◌≡◌, ◌+◌, ◌++◌, ◌<◌, ◌≤◌, ◌∷◌, [], IfOk, IfSome, IsSome, List, None, OnErr, OnOk, Some, false, if◌then◌else◌, length, reverse, slice_get, take, true, ℕ};
+ghost use Rattle.std.specs.Prelude.{◌≡◌, ◌+◌, ◌++◌, ◌-◌, ◌<◌, ◌≤◌, ◌∷◌, [], IfOk, IfSome, IsSome, List, None, OnErr, OnOk, Some, false, if◌then◌else◌, length, reverse, slice_get, take, true, ℕ};
 ghost use Rattle.vt_spec.specs.Machine.Layers.{at_path, shown};
 ghost use Rattle.vt_spec.specs.Tree.{entries_in, is_directory_node};
 ghost use Rattle.vt_spec.specs.TreeInvariant.{entry_at, led};
@@ -7,11 +7,12 @@ ghost use Rattle.vt_node.specs.Ranks.{rank_among};
 ghost use Rattle.vt_location.specs.Locations.{inode_of};
 ghost use Rattle.vt_location.specs.Numbers.{exchanged};
 ghost use Rattle.vt_location.specs.declared.births.Birth.TheVariants.{Below};
-ghost use Rattle.vt_fs.specs.FilesystemsValue.{files_at, node_seen, promising, with_changed};
+ghost use Rattle.vt_fs.specs.FilesystemsValue.{files_at, giving_back, node_seen, promising, with_changed};
 ghost use Rattle.vt_overlay.specs.Merge.LayerValue.{layers_of, opened};
 ghost use Rattle.vt_overlay.specs.MergedTree.{AreLayers};
 ghost use Rattle.vt_overlay.specs.declared.merge.layers.LayerRef.{LayerRef as Layer};
 ghost use Rattle.vt_overlay.specs.declared.merge.merging.TheConstants.{MOST_LAYERS};
+ghost use Rattle.vt_births.specs.Births.{BirthsValue};
 ghost use Rattle.vt_copyup.specs.Planned.{AreBirthsOf, AreCopiesFrom, IsCopyIn, IsPlanOf, names_of};
 ghost use Rattle.vt_copyup.specs.Plans.{AreNested, IsReady, many};
 
@@ -24,41 +25,37 @@ use vt_location::{Birth, FilesystemId, InodeRef, NodeRef};
 use vt_node::{EntryRoom, Node, copied_bytes};
 use vt_overlay::{LayerEntry, LayerRef, MergedDirectory, Way, entry_in, first_entry, slot_of};
 
-/// Plans the copies of the object at a path and of its missing parents. It allocates all that they need, so that they
-/// can be made where nothing may fail. Nothing changes that anyone sees.
+/// Plans the copies of the object at a path and of its missing parents. It allocates all that they own, so that they can
+/// be made where nothing may fail, once their inodes and births are promised (`promise`). Nothing changes.
 ///
-/// The layers of the overlay are given with the upper one first. `room` is kept from plan to plan, so that a plan in a
-/// large directory mostly finds the room that an earlier one made. It fails only if an allocation does.
+/// The layers of the overlay are given with the upper one first. A file that is to be written whole is copied without its
+/// bytes. `room` is kept from plan to plan, so that a plan in a large directory mostly finds the room that an earlier one
+/// made. It fails only if an allocation does.
 pub fn plan<W: Way>(
     alloc: Global,
-    trees: &mut Filesystems,
-    births: &mut Births,
+    trees: &Filesystems,
     room: &mut EntryRoom,
     layers: &[LayerRef],
     overlay: FilesystemId,
     path: &W,
+    with_bytes: bool,
 ) -> Result<Plan, AllocError>
-    requires layers { AreLayers trees.old layers.now }
+    requires layers { AreLayers trees.now layers.now }
     requires upper { 0 < length layers.now }
     requires few { length layers.now ≤ MOST_LAYERS }
-    requires shown { IsSome (shown (layers_of trees.old layers.now) (W.names path.now)) }
-    requires births { AreBirthsOf trees.old layers.now overlay births.old }
+    requires shown { IsSome (shown (layers_of trees.now layers.now) (W.names path.now)) }
     ensures planned { (upper : Layer) (lowers : List Layer) → layers.now ≡ upper ∷ lowers
-        → IfOk result (λ plan. IsPlanOf trees.old upper lowers overlay (W.names path.now) plan) }
-    ensures ready { IfOk result (λ plan. IsReady plan trees.new births.new room.new) }
-    ensures inodes { IfOk result (λ plan. trees.new
-        ≡ with_changed plan.directory.filesystem.count (promising (many plan)) trees.old) }
-    ensures births { IfOk result (λ plan. births.new
-        ≡ record births.old { promised = births.old.promised + many plan }) }
+        → IfOk result (λ plan. IsPlanOf with_bytes trees.now upper lowers overlay (W.names path.now) plan) }
+    ensures ready { (births : BirthsValue) (inodes more : ℕ) → AreBirthsOf trees.now layers.now overlay births
+        → IfOk result (λ plan. many plan ≤ inodes → many plan ≤ more → IsReady plan
+        (with_changed plan.directory.filesystem.count (promising inodes) trees.now)
+        (record births { promised = births.promised + more }) room.new) }
     ensures room { room.old ≤ room.new }
-    ensures err { OnErr result (trees.new ≡ trees.old) }
-    ensures err_births { OnErr result (births.new ≡ births.old) }
 {
     let upper = upper_of(layers);
     let led = led_above(trees, upper.directory, path);
-    let pieces = pieces_from(alloc, trees, layers, overlay, path, led.names)?;
+    let pieces = pieces_from(alloc, trees, layers, overlay, path, with_bytes, led.names)?;
     room_for_first(trees, led.inode, pieces.len(), room)?;
-    promise(trees, births, led.inode.filesystem, pieces.len())?;
     Ok(Plan {
         directory: led.inode,
         pieces,
@@ -90,25 +87,42 @@ fn room_for_first(
     trees.make_room(directory.node_ref(), 1, room)
 }
 
-// Promises inodes of the upper layer's filesystem, and births, as many of both.
-fn promise(
+/// Promises inodes of the upper layer's filesystem, and births of copies, for all that a call plans. It must be applied, or
+/// given back.
+pub fn promise(
     trees: &mut Filesystems,
     births: &mut Births,
     upper: FilesystemId,
+    inodes: usize,
     copies: usize,
 ) -> Result<(), AllocError>
-    ensures inodes { IfOk result (λ done. trees.new ≡ with_changed upper.count (promising copies) trees.old) }
+    ensures inodes { IfOk result (λ done. trees.new ≡ with_changed upper.count (promising inodes) trees.old) }
     ensures births { IfOk result (λ done. births.new
         ≡ record births.old { promised = births.old.promised + copies }) }
     ensures err { OnErr result (trees.new ≡ trees.old) }
     ensures err_births { OnErr result (births.new ≡ births.old) }
 {
-    trees.promise(upper, copies)?;
+    trees.promise(upper, inodes)?;
     if births.promise(copies).is_err() {
-        trees.give_back(upper, copies);
+        trees.give_back(upper, inodes);
         return Err(AllocError);
     }
     Ok(())
+}
+
+/// Gives back what was promised: nothing is made. It does not allocate.
+pub fn give_back(
+    trees: &mut Filesystems,
+    births: &mut Births,
+    filesystem: FilesystemId,
+    inodes: usize,
+    copies: usize,
+)
+    ensures trees { trees.new ≡ with_changed filesystem.count (giving_back inodes) trees.old }
+    ensures births { births.new ≡ record births.old { promised = births.old.promised - copies } }
+{
+    trees.give_back(filesystem, inodes);
+    births.give_back(copies);
 }
 
 // How many names of a path the upper layer has, and where they lead there.
@@ -154,6 +168,7 @@ fn pieces_from<W: Way>(
     layers: &[LayerRef],
     overlay: FilesystemId,
     path: &W,
+    with_bytes: bool,
     start: usize,
 ) -> Result<Vec<Piece>, AllocError>
     requires layers { AreLayers trees.now layers.now }
@@ -163,7 +178,8 @@ fn pieces_from<W: Way>(
     requires nowhere { (upper : Layer) → slice_get layers.now 0 ≡ Some upper → start < length (W.names path.now)
         → at_path (opened trees.now upper.directory) (take (start + 1) (W.names path.now)) ≡ None }
     ensures copies { IfOk result (λ pieces.
-        AreCopiesFrom trees.now layers.now overlay (take start (W.names path.now)) (reverse pieces.items)) }
+        AreCopiesFrom with_bytes trees.now layers.now overlay (take start (W.names path.now))
+        (reverse pieces.items)) }
     ensures whole { IfOk result (λ pieces.
         take start (W.names path.now) ++ names_of (reverse pieces.items) ≡ W.names path.now) }
     ensures nested { IfOk result (λ pieces. AreNested (reverse pieces.items)) }
@@ -172,7 +188,7 @@ fn pieces_from<W: Way>(
     let mut index = path.len();
     while index > start {
         index -= 1;
-        let copy = copy_at(alloc, trees, layers, overlay, path, index)?;
+        let copy = copy_at(alloc, trees, layers, overlay, path, with_bytes, index)?;
         let room = room_of_copy(alloc, index > start)?;
         pieces.push(Piece { copy, room })?;
     }
@@ -216,6 +232,7 @@ fn copy_at<W: Way>(
     layers: &[LayerRef],
     overlay: FilesystemId,
     path: &W,
+    with_bytes: bool,
     index: usize,
 ) -> Result<PlannedCopy, AllocError>
     requires layers { AreLayers trees.now layers.now }
@@ -224,7 +241,7 @@ fn copy_at<W: Way>(
     requires shown { IsSome (shown (layers_of trees.now layers.now) (take (index + 1) (W.names path.now))) }
     requires nowhere { (upper : Layer) → slice_get layers.now 0 ≡ Some upper
         → at_path (opened trees.now upper.directory) (take (index + 1) (W.names path.now)) ≡ None }
-    ensures copy { IfOk result (IsCopyIn trees.now layers.now overlay (take index (W.names path.now))) }
+    ensures copy { IfOk result (IsCopyIn with_bytes trees.now layers.now overlay (take index (W.names path.now))) }
     ensures name { IfOk result (λ copy. slice_get (W.names path.now) index ≡ Some copy.name.items) }
 {
     let name = path.name(index);
@@ -237,7 +254,7 @@ fn copy_at<W: Way>(
     };
     Ok(PlannedCopy {
         name: copied_bytes(alloc, name)?,
-        node: CopiedNode::of(alloc, node)?,
+        node: CopiedNode::of(alloc, node, with_bytes)?,
         born: born_below(trees, overlay, found, name, node),
     })
 }

@@ -1,21 +1,21 @@
 //! Copies that are planned, and how they are made: the kernel's overlayfs document, "upper and lower" (copy_up).
-ghost use Rattle.std.specs.Prelude.{◌≡◌, ◌+◌, ◌-◌, ◌<◌, None, Some, if◌then◌else◌, length, nat_eq, true, ℕ};
+ghost use Rattle.std.specs.Prelude.{◌≡◌, ◌+◌, ◌<◌, [], None, Some, if◌then◌else◌, nat_eq, true, ℕ};
 ghost use Rattle.vt_spec.specs.Inodes.{changed};
 ghost use Rattle.vt_spec.specs.Language.Changes.Change.{Make};
 ghost use Rattle.vt_location.specs.Locations.{inode_of};
 ghost use Rattle.vt_location.specs.SameNodes.{same_node};
 ghost use Rattle.vt_location.specs.declared.locations.NodeRef.{NodeRef as Node};
-ghost use Rattle.vt_fs.specs.FilesystemsValue.{ChangesInodes, files_at, giving_back, inodes_promised, with_changed};
+ghost use Rattle.vt_fs.specs.FilesystemsValue.{ChangesInodes, files_at, inodes_promised};
 ghost use Rattle.vt_laws_worlds.specs.Merging.UpperChanges.{copy_node};
 ghost use Rattle.vt_births.specs.Births.{copy_of, is_born_below, node_of};
 ghost use Rattle.vt_copyup.specs.Made.{AreMade};
-ghost use Rattle.vt_copyup.specs.Plans.{CopiesAreThere, EntriesAreThere, Fits, IsReady, copies_of, in_turn};
+ghost use Rattle.vt_copyup.specs.Plans.{CopiesAreThere, EntriesAreThere, Fits, IsReady, copies_of, in_turn, many};
 
 use crate::copied::CopiedNode;
 use std::alloc::Global;
 use vt_births::Births;
 use vt_fs::Filesystems;
-use vt_location::{InodeRef, NodeRef};
+use vt_location::{FilesystemId, InodeRef, NodeRef};
 use vt_node::EntryRoom;
 
 /// A copy that is planned: its name, the inode that is copied, and the node of the overlay that is shown there.
@@ -35,8 +35,8 @@ pub(crate) struct Piece {
 }
 
 /// What is copied for one object: each prefix of its path that the upper layer lacks. It owns all memory that the
-/// copies take, and inodes and births are promised to it. It must be applied or given back.
-#[derive(Debug)]
+/// copies take but for inodes and births, which have to be promised before it is applied (`promise`).
+#[derive(Debug, Drop)]
 pub struct Plan {
     // The upper layer's directory for the first copy; where nothing is planned, the object itself.
     pub(crate) directory: InodeRef,
@@ -45,6 +45,31 @@ pub struct Plan {
 }
 
 impl Plan {
+    /// Nothing is to be copied: the object is in the upper layer.
+    pub fn nothing(alloc: Global, object: InodeRef) -> Self
+        ensures object { result.directory ≡ object }
+        ensures nothing { result.pieces.items ≡ [] }
+    {
+        Plan {
+            directory: object,
+            pieces: Vec::new(alloc),
+        }
+    }
+
+    /// How many copies there are.
+    pub fn len(&self) -> usize
+        ensures { result ≡ many self.now }
+    {
+        self.pieces.len()
+    }
+
+    /// The filesystem of the upper layer.
+    pub fn filesystem(&self) -> FilesystemId
+        ensures { result ≡ self.now.directory.filesystem }
+    {
+        self.directory.filesystem
+    }
+
     /// Makes the copies, each in the one before, and their births. It returns the object's inode in the upper layer.
     /// It does not allocate.
     pub fn apply(
@@ -55,7 +80,10 @@ impl Plan {
         room: &mut EntryRoom,
     ) -> InodeRef
         requires { IsReady self trees.old births.old room.old }
-        ensures { AreMade self.directory (copies_of (in_turn self)) trees.old births.old trees.new births.new result }
+        ensures made { AreMade self.directory (copies_of (in_turn self)) trees.old births.old trees.new births.new result }
+        ensures filesystem { result.filesystem ≡ self.directory.filesystem }
+        ensures entries { EntriesAreThere (files_at trees.new result.filesystem.count).tree }
+        ensures there { CopiesAreThere trees.new result.filesystem.count births.new }
     {
         let Plan {
             directory,
@@ -70,19 +98,6 @@ impl Plan {
             here = copy.make(alloc, trees, births, here, &mut room);
         }
         here
-    }
-
-    /// Gives back what was promised: nothing is copied. It does not allocate.
-    pub fn give_back(self, trees: &mut Filesystems, births: &mut Births)
-        ensures trees { trees.new
-            ≡ with_changed self.directory.filesystem.count (giving_back (length self.pieces.items)) trees.old }
-        ensures births { births.new ≡ record births.old {
-          promised = births.old.promised - length self.pieces.items;
-        } }
-    {
-        let Plan { directory, pieces } = self;
-        trees.give_back(directory.filesystem, pieces.len());
-        births.give_back(pieces.len());
     }
 }
 

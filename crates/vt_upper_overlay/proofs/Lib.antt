@@ -8,3 +8,8 @@ pub mod Deep
 pub mod Entries
 pub mod TreesSame
 pub mod StandingSo
+pub mod Ranked
+pub mod NamesFound
+pub mod ThereAbove
+pub mod LentAbove
+pub mod EntriesLent

@@ -47,7 +47,7 @@ module _ (trees : Filesystems) (overlay : UpperOverlayValue) (looked : IsLooked 
       (plain_world trees) (upper_seen overlay)
 
   -- the inode at a path, of a layer
-  inode_at : (path : List (List ℕ)) (place object : ℕ) (lower : LayerRef)
+  pub inode_at : (path : List (List ℕ)) (place object : ℕ) (lower : LayerRef)
       → shown layers path ≡ Some (record { layer = place; object = object })
       → slice_get overlay.layers.lowers place ≡ Some lower
       → node_shown nat_eq (plain_world trees) (upper_seen overlay) path

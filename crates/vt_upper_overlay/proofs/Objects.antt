@@ -18,7 +18,8 @@ use Rattle.vt_births.specs.Kept.{is_kept}
 use Rattle.vt_births.proofs.Nodes.{same_node-is}
 use Rattle.vt_fs.proofs.Numbers.{found_by_number}
 use Rattle.vt_fs.specs.FilesystemsValue.{Filesystems, files_at, node_seen}
-use Rattle.vt_overlay.specs.Alike.{front, lent_at}
+use Rattle.vt_location.specs.Fronts.{front}
+use Rattle.vt_overlay.specs.Alike.{lent_at}
 use Rattle.vt_overlay.specs.Merge.LayerValue.{layer_of, layers_of, seen_of}
 use Rattle.vt_overlay.specs.declared.merge.layers.LayerRef.{LayerRef}
 use Rattle.vt_overlay.specs.declared.merge.layers.Real.{Real as Object}
@@ -32,11 +33,11 @@ use Rattle.vt_upper_overlay.proofs.Shown.{IsAbove, IsBelow, IsLooked, birth_belo
 use Rattle.vt_upper_overlay.proofs.Ways as ways
 
 -- an inode with another parent and other entries, or by other numbers, is the same in front
-front_as : (parent : ℕ) (entries : Entries ℕ) (node : Option (Node ℕ))
+pub front_as : (parent : ℕ) (entries : Entries ℕ) (node : Option (Node ℕ))
     → front node ≡ front (option_map (node_as parent entries) node)
 front_as parent entries object = grind (arith, common_steps)
 
-front_seen : (f : ℕ) (node : Option (Node ℕ)) → front node ≡ front (option_map (node_seen f) node)
+pub front_seen : (f : ℕ) (node : Option (Node ℕ)) → front node ≡ front (option_map (node_seen f) node)
 front_seen f object = grind (arith, common_steps)
 
 pub same_kind : (a b : Option (Node ℕ)) → front a ≡ front b → is_directory_node a ≡ is_directory_node b
@@ -123,7 +124,7 @@ module _ (trees : Filesystems) (overlay : UpperOverlayValue) (node : NodeRef) (n
   abbrev IsWell : NodeRef → Type 0
   IsWell = IsKeptWell trees overlay
 
-  well_among : (nodes : List NodeRef) → All IsWell nodes → list_any (same_node node) nodes ≡ true → IsWell node
+  pub well_among : (nodes : List NodeRef) → All IsWell nodes → list_any (same_node node) nodes ≡ true → IsWell node
   well_among [] all e = absurd (true≢false (sym e))
   well_among (first ∷ nodes) all e = by (same_node node first) refl
       (λ s. well_among nodes (All-tail IsWell first nodes all)
@@ -133,7 +134,7 @@ module _ (trees : Filesystems) (overlay : UpperOverlayValue) (node : NodeRef) (n
       by true s rest = subst IsWell (sym (same_node-is node first s)) (All-head IsWell first nodes all)
       by false s rest = rest s
 
-  found_among : (nodes : List NodeRef) → All IsWell nodes → list_any (same_node node) nodes ≡ true
+  pub found_among : (nodes : List NodeRef) → All IsWell nodes → list_any (same_node node) nodes ≡ true
       → find (λ one. nat_eq (number_of node) (number_of one)) nodes ≡ Some node
   found_among [] all e = absurd (true≢false (sym e))
   found_among (first ∷ nodes) all e = by (nat_eq (number_of node) (number_of first)) refl
@@ -155,7 +156,7 @@ module _ (trees : Filesystems) (overlay : UpperOverlayValue) (node : NodeRef) (n
       by false s rest = rest (other s (same_node node first) refl)
 
   -- what is not kept is not found
-  none_among : (nodes : List NodeRef) → All IsWell nodes → list_any (same_node node) nodes ≡ false
+  pub none_among : (nodes : List NodeRef) → All IsWell nodes → list_any (same_node node) nodes ≡ false
       → find (λ one. nat_eq (number_of node) (number_of one)) nodes ≡ None
   none_among [] all e = refl
   none_among (first ∷ nodes) all e = by (nat_eq (number_of node) (number_of first)) refl
@@ -222,7 +223,7 @@ module _ (trees : Filesystems) (overlay : UpperOverlayValue) (looked : IsLooked 
   real_shown_at path numbered = ⊎_elim (real_above path) (real_below path)
       (shown_node trees overlay looked path node node_small numbered)
 
-  path_number : (path : List (List ℕ)) → path_at trees overlay number ≡ Some path
+  pub path_number : (path : List (List ℕ)) → path_at trees overlay number ≡ Some path
       → number_at trees overlay path ≡ Some number
   path_number = ways.found_numbered (real_number trees overlay) (held trees overlay)
       (longest trees overlay.layers.lowers) world over number

@@ -61,7 +61,7 @@ module _ (trees : Filesystems) (overlay : UpperOverlayValue) (looked : IsLooked 
 
   -- Of a node that has its object where it was born, in a lower layer
   module _ (no_slot : slot_above overlay.nodes.births node ≡ None) where
-    only_below : (path : List (List ℕ)) → number_at trees overlay path ≡ Some (number_of node)
+    pub only_below : (path : List (List ℕ)) → number_at trees overlay path ≡ Some (number_of node)
         → IsBelow trees overlay looked path node
     only_below path numbered = ⊎_elim (λ a. none_is_some (exchanged looked.top.directory.filesystem.count a.object)
         (sym no_slot ∙ slot_is_above trees overlay looked path node a)) (λ b. b) (cases path numbered)
@@ -137,16 +137,16 @@ module _ (trees : Filesystems) (overlay : UpperOverlayValue) (looked : IsLooked 
     is_top : IsLayer trees looked.top
     is_top = looked.stands.layers 0 looked.top looked.first
 
-    only_above : (path : List (List ℕ)) → number_at trees overlay path ≡ Some (number_of node)
+    pub only_above : (path : List (List ℕ)) → number_at trees overlay path ≡ Some (number_of node)
         → IsAbove trees overlay looked path node
     only_above path numbered = ⊎_elim (λ a. a) (λ b. none_is_some slot
         (sym (no_slot_below trees overlay looked path node b) ∙ its_slot)) (cases path numbered)
 
-    slot_is : (path : List (List ℕ)) (a : IsAbove trees overlay looked path node) → exchanged f a.object ≡ slot
+    pub slot_is : (path : List (List ℕ)) (a : IsAbove trees overlay looked path node) → exchanged f a.object ≡ slot
     slot_is path a = same_Some (exchanged f a.object) slot
         (sym (slot_is_above trees overlay looked path node a) ∙ its_slot)
 
-    object_is : (path : List (List ℕ)) (a : IsAbove trees overlay looked path node) → a.object ≡ inode_number f slot
+    pub object_is : (path : List (List ℕ)) (a : IsAbove trees overlay looked path node) → a.object ≡ inode_number f slot
     object_is path a = sym (exchanged_back f a.object) ∙ ap (exchanged f) (slot_is path a)
         ∙ exchanged_slot f slot slot_small
 
@@ -167,7 +167,7 @@ module _ (trees : Filesystems) (overlay : UpperOverlayValue) (looked : IsLooked 
 
     module _ (same : nat_eq (number_of (node_above overlay.nodes.births node.filesystem slot)) (number_of node) ≡ true)
       where
-        is_same : node_above overlay.nodes.births overlay.layers.number slot ≡ node
+        pub is_same : node_above overlay.nodes.births overlay.layers.number slot ≡ node
         is_same = ap (λ (id : FilesystemId). node_above overlay.nodes.births id slot) (sym own)
             ∙ one_to_one
             (node_above overlay.nodes.births node.filesystem slot) node

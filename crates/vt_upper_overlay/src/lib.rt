@@ -4,9 +4,12 @@
 
 mod laws;
 mod looking;
+mod names;
 mod nodes;
 mod overlay;
 mod paths;
+mod showing;
 
-pub use laws::{looks_see_merged_trees, merged_trees_stand_above};
+pub use laws::{looks_see_merged_trees, merged_trees_stand_above, objects_above_are_alike};
+pub use names::has_name;
 pub use overlay::UpperOverlay;

@@ -9,8 +9,9 @@ ghost use Rattle.vt_location.specs.Numbers.{exchanged};
 ghost use Rattle.vt_births.specs.Births.{slot_above};
 ghost use Rattle.vt_births.specs.Kept.{is_kept};
 ghost use Rattle.vt_fs.specs.FilesystemsValue.{Filesystems as Trees, files_at};
-ghost use Rattle.vt_overlay.specs.Alike.{front};
+ghost use Rattle.vt_location.specs.Fronts.{front};
 ghost use Rattle.vt_overlay.specs.MergedTree as through;
+ghost use Rattle.vt_upper_overlay.specs.Lent.{real_lent};
 ghost use Rattle.vt_upper_overlay.specs.MergedAbove.{directory_path, merged_above, object_lent};
 ghost use Rattle.vt_upper_overlay.specs.Standing.{StandsAbove, is_there};
 ghost use Rattle.vt_upper_overlay.specs.UpperValue.{below_upper};
@@ -72,6 +73,8 @@ impl UpperOverlay {
             ≡ entry_named name.now (entries_in ((merged_above trees.now self.now).node (number_of node))) }
         ensures object { IfSome result (λ entry.
             option_copied entry.object ≡ object_lent trees.now self.now entry.node) }
+        ensures lent { IfSome result (λ entry.
+            option_copied entry.object ≡ real_lent trees.now self.now (number_of entry.node)) }
     {
         if !self.is_shown_directory(trees, node) {
             return None;
@@ -230,7 +233,7 @@ fn is_directory(node: Option<&Node>) -> bool
 }
 
 // A node that was born in a lower layer, where the upper layer is the highest lower one.
-fn below_upper(node: NodeRef) -> Option<NodeRef>
+pub(crate) fn below_upper(node: NodeRef) -> Option<NodeRef>
     ensures value { result ≡ below_upper node node.birth }
     ensures small { is_small_node node ≡ true }
 {

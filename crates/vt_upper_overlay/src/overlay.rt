@@ -16,7 +16,8 @@ pub struct UpperOverlay {
     // All layers, the upper one first.
     pub(crate) layers: Overlay,
     pub(crate) work: LayerRef,
-    pub(crate) nodes: UpperNodes,
+    /// Its births, and what it keeps without a name: a plan has room promised there, and adds to them.
+    pub nodes: UpperNodes,
 }
 
 impl UpperOverlay {

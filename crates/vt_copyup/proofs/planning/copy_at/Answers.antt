@@ -8,8 +8,7 @@ use Rattle.vt_overlay.specs.declared.merge.layers.LayerRef.{LayerRef}
 use Rattle.vt_overlay.specs.declared.merge.merging.TheConstants.{MOST_LAYERS}
 use Rattle.vt_overlay.specs.Merge.EntryValue.{IsFirstEntry}
 use Rattle.vt_overlay.specs.Merge.LayerValue.{layers_of, opened}
-use Rattle.vt_copyup.specs.Copied.{bare}
-use Rattle.vt_copyup.proofs.Seen.{bare-seen, inode_shown, is_lower, is_node_at, is_within, object_is_there}
+use Rattle.vt_copyup.proofs.Seen.{copied-seen, inode_shown, is_lower, is_node_at, is_within, object_is_there}
 use Rattle.vt_copyup.proofs.Ways.{take_next}
 use Rattle.vt_copyup.proofs.planning.copy_at.Goals as goal
 
@@ -97,7 +96,7 @@ returns-clause-copy g c =
       shows = ap (λ n. Rattle.vt_spec.proofs.Common.then_some (shown (layers_of trees layers) (front ++ n ∷ []))
           (Rattle.vt_spec.specs.Machine.Merging.layer_node (layers_of trees layers))) (sym copied)
           ∙ inode_shown trees layers c.requires.layers front name found first some (node_seen f node) is;
-      node = c.in_ok-of.ensures ∙ sym (bare-seen f node);
+      node = c.in_ok-of.ensures ∙ sym (copied-seen c.args.with_bytes f node);
       born = subst (λ n. Rattle.vt_copyup.specs.Planned.IsNodeAt trees layers c.args.overlay (front ++ n ∷ [])
           c.born_below.result) copied
           (is_node_at trees layers c.requires.layers front name found first some c.args.overlay

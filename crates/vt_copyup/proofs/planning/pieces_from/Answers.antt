@@ -35,9 +35,9 @@ loop-index-preserved g c =
     let pushed : c.push.new.self.items ≡ items ++ piece ∷ [] = search rules in
     let turned : reverse c.push.new.self.items ≡ piece ∷ reverse items =
     ap reverse pushed ∙ reverse-append items (piece ∷ []) in
-    subst (SoFar c.args.trees.now c.args.layers.now c.args.overlay names start (index - 1)) (sym turned)
-    (so_far_next c.args.trees.now c.args.layers.now c.args.overlay names start c.requires.layers (index - 1)
+    subst (SoFar c.args.with_bytes c.args.trees.now c.args.layers.now c.args.overlay names start (index - 1)) (sym turned)
+    (so_far_next c.args.with_bytes c.args.trees.now c.args.layers.now c.args.overlay names start c.requires.layers (index - 1)
     (reverse items) piece
-    (subst (λ n. SoFar c.args.trees.now c.args.layers.now c.args.overlay names start n (reverse items)) back
+    (subst (λ n. SoFar c.args.with_bytes c.args.trees.now c.args.layers.now c.args.overlay names start n (reverse items)) back
     c.loop-index.invariant) less c.in_ok-copy.ensures.copy c.in_ok-copy.ensures.name
     (λ more. c.in_ok-room.ensures (grind (arith, nat_tests))))

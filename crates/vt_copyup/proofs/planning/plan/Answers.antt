@@ -1,8 +1,7 @@
-use Rattle.std.proofs.Common.{rules, arith, ◌≡◌, ◌∷◌, ◌∙◌, ◌<◌, ◌+◌, ap, length, List, reverse, slice_get, Some, subst, sym, take}
+use Rattle.std.proofs.Common.{rules, arith, ◌≡◌, ◌∷◌, ◌∙◌, ◌<◌, ◌+◌, ◌≤◌, ap, length, List, reverse, slice_get, Some, subst, sym, take}
 use Rattle.vt_spec.proofs.Common.{length-reverse, same_Some}
 use Rattle.vt_spec.specs.Machine.Layers.{at_path}
 use Rattle.vt_location.specs.Locations.{inode_of}
-use Rattle.vt_fs.specs.FilesystemsValue.{promising, with_changed}
 use Rattle.vt_overlay.specs.declared.merge.layers.LayerRef.{LayerRef}
 use Rattle.vt_overlay.specs.Merge.LayerValue.{opened}
 use Rattle.vt_copyup.specs.Planned.{AreCopiesFrom, ArePlannedBy}
@@ -36,33 +35,27 @@ returns-clause-planned g c = λ upper lowers is.
       whole = c.in_ok-pieces.ensures.whole;
       leads = ap (λ (l : LayerRef). at_path (opened trees l.directory) front) (sym same) ∙ led.ensures.leads;
       filesystem = led.ensures.filesystem ∙ ap (λ (l : LayerRef). l.directory.filesystem) same;
-      planned = λ fresh mounter. subst (λ l. ArePlannedBy fresh mounter trees l lowers front pieces) same
+      planned = λ fresh mounter. subst (λ l. ArePlannedBy c.args.with_bytes fresh mounter trees l lowers front pieces) same
           (are_planned_so trees c.args.layers.now c.requires.layers own c.upper_of-upper.ensures c.args.overlay
           led.result.inode led.ensures.filesystem names led.result.names led.ensures.many led.ensures.leads
-          led.ensures.end pieces c.in_ok-pieces.ensures.copies c.in_ok-pieces.ensures.whole fresh mounter lowers
+          led.ensures.end c.args.with_bytes pieces c.in_ok-pieces.ensures.copies c.in_ok-pieces.ensures.whole fresh mounter lowers
           (is ∙ ap (λ l. l ∷ lowers) (sym same)));
-      copies = subst (λ l. AreCopiesFrom trees l c.args.overlay front pieces) is c.in_ok-pieces.ensures.copies;
+      copies = subst (λ l. AreCopiesFrom c.args.with_bytes trees l c.args.overlay front pieces) is c.in_ok-pieces.ensures.copies;
     }
 
 pub returns-clause-ready : goal.returns-clause-ready
-returns-clause-ready g c =
+returns-clause-ready g c = λ births inodes more of many_inodes many_births.
     let trees = c.args.trees.now in
-    let births = c.args.births.now in
     let names = g.W.Way.names c.args.path.now in
     let led = c.led_above-led in
     let pieces : List Piece = reverse c.in_ok-pieces.pieces.items in
-    let f = led.result.inode.filesystem.count in
-    let planned : c.len-2.result ≡ length c.in_ok-pieces.pieces.items =
-    c.len-2.ensures ∙ c.in_ok-pieces.pieces.ok.0 in
-    let counted : c.len.result ≡ length c.in_ok-pieces.pieces.items =
-    c.len.ensures ∙ c.in_ok-pieces.pieces.ok.0 in
-    let many : c.len-2.result ≡ length pieces = planned ∙ sym (length-reverse c.in_ok-pieces.pieces.items) in
-    let also : c.len.result ≡ length pieces = counted ∙ sym (length-reverse c.in_ok-pieces.pieces.items) in
+    let turned = length-reverse c.in_ok-pieces.pieces.items in
+    let counted : c.len.result ≡ length pieces =
+    c.len.ensures ∙ c.in_ok-pieces.pieces.ok.0 ∙ sym turned in
     let ready = is_ready trees c.args.layers.now c.requires.layers c.upper_of-upper.result c.upper_of-upper.ensures
     c.args.overlay led.result.inode led.ensures.filesystem names led.result.names led.ensures.many led.ensures.leads
-    led.ensures.end pieces c.in_ok-pieces.ensures.copies c.in_ok-pieces.ensures.whole c.in_ok-pieces.ensures.nested
-    births c.requires.births c.room_for_first.new.room
-    (λ some. c.in_ok-room_for_first.ensures.ok (subst (λ n. 0 < n) (sym also) some)) c.promise.new.trees
-    c.promise.new.births (c.in_ok-promise.ensures.inodes ∙ ap (λ n. with_changed f (promising n) trees) many)
-    (c.in_ok-promise.ensures.births ∙ ap (λ n. record births { promised = births.promised + n }) many) in
+    led.ensures.end c.args.with_bytes pieces c.in_ok-pieces.ensures.copies c.in_ok-pieces.ensures.whole c.in_ok-pieces.ensures.nested
+    births of c.room_for_first.new.room
+    (λ some. c.in_ok-room_for_first.ensures.ok (subst (λ n. 0 < n) (sym counted) some)) inodes more
+    (omega (arith, many_inodes, turned)) (omega (arith, many_births, turned)) in
     record { first = ready.0; all = ready.1 }

@@ -4,11 +4,12 @@ use Rattle.vt_births.specs.Births.{copy_of, is_born_below}
 use Rattle.vt_copyup.specs.Made.{AreMade}
 use Rattle.vt_copyup.specs.Plans.{AreReady, FirstFits, copies_of, in_turn}
 use Rattle.vt_copyup.specs.declared.plans.Piece.{Piece}
-use Rattle.vt_copyup.proofs.Stepping.{IsStep, OwnFits, fits_next, none_made, one_more, ready_next}
+use Rattle.vt_location.specs.declared.locations.InodeRef.{InodeRef}
+use Rattle.vt_copyup.proofs.Stepping.{IsStep, OwnFits, fits_next, last_filesystem, none_made, one_more, ready_next}
 use Rattle.vt_copyup.proofs.plans.Plan.apply.Goals as goal
 
-pub returns-in_default : goal.returns-in_default
-returns-in_default c =
+pub returns-in_default-clause-made : goal.returns-in_default-clause-made
+returns-in_default-clause-made c =
     let none : c.args.self.pieces.items ≡ [] = search rules in
     subst (λ items. AreMade c.args.self.directory (copies_of (reverse items)) c.args.trees.now c.args.births.now
     c.args.trees.now c.args.births.now c.args.self.directory) (sym none)
@@ -121,3 +122,8 @@ loop-piece-preserved c =
       fits = fits_next piece (reverse items) here trees births made.new.trees made.new.births made.result step
           fits.there ready;
     }
+
+pub returns-clause-filesystem : goal.returns-clause-filesystem
+returns-clause-filesystem c =
+    let made = c.loop-piece.invariant.made in
+    ap (λ (l : InodeRef). l.filesystem) made.is_last ∙ last_filesystem made.made c.args.self.directory

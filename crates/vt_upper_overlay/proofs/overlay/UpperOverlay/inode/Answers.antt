@@ -1,6 +1,6 @@
 use Rattle.std.proofs.Common.{ap, option_copied, option_map, sym, ◌∙◌}
 use Rattle.vt_location.proofs.NodeLemmas.{small_parts}
-use Rattle.vt_overlay.specs.Alike.{front}
+use Rattle.vt_location.specs.Fronts.{front}
 use Rattle.vt_overlay.specs.Merge.LayerValue.{seen_of}
 use Rattle.vt_upper_overlay.specs.MergedAbove.{lent}
 use Rattle.vt_upper_overlay.proofs.Objects.{alike_there, inode_seen, is_placed, looked_lent, looked_up}

@@ -1,0 +1,10 @@
+//! Changes of overlays with an upper layer: what a call makes of the upper layer's tree, and of the births that the
+//! overlay keeps. A change is planned with all its memory, and then made where nothing may fail.
+#![tactic(auto)]
+
+mod changing;
+mod copying;
+mod laws;
+
+pub use changing::{ChangePlan, ObjectChange};
+pub use laws::changes_are_made;
