@@ -5,7 +5,7 @@ use Rattle.vt_spec.specs.declared.attributes.Kind.TheVariants.{White}
 use Rattle.vt_spec.specs.declared.errors.Deny.{Deny}
 use Rattle.vt_spec.specs.declared.errors.Rule.TheVariants.{B1, C1, E2, E9}
 use Rattle.vt_spec.specs.Machine.Rules.Conditions.{mounter_may_not}
-use Rattle.vt_looks.specs.Looking.{Front, front}
+use Rattle.vt_location.specs.Fronts.{Front, front}
 
 -- a test of what an inode and its real object have in common, which what is not there does not pass
 abbrev asked : (Front → Bool) → Option Front → Bool

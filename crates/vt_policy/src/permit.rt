@@ -35,6 +35,13 @@ impl Model for Permit {
 }
 
 impl Permit {
+    /// What is granted, to look at.
+    pub fn grant(&self) -> &Grant
+        ensures { result.now ≡ self.now.grant }
+    {
+        &self.grant
+    }
+
     /// Spends it in the world of this change number: the grant is to be applied there.
     pub fn spend(self, change: u64) -> Grant
         requires { self.change ≡ change }

@@ -1,7 +1,7 @@
 -- What is lent for an inode grants what the inode grants.
 use Rattle.std.proofs.Common.{◌≡◌, ℕ, None, Some, refl, ap, Option}
 use Rattle.vt_spec.proofs.Common.{Credentials, Node, allows, node_allows, same_Some}
-use Rattle.vt_looks.specs.Looking.{front, front_of}
+use Rattle.vt_location.specs.Fronts.{front, front_of}
 
 pub allows-alike : (who : Credentials) (wanted : ℕ) (one other : Option (Node ℕ)) → front one ≡ front other
     → node_allows who wanted one ≡ node_allows who wanted other

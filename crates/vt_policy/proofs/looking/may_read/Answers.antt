@@ -2,8 +2,8 @@ use Rattle.std.proofs.Common.{Err, Ok, Some, ap, false, not, option_copied, rule
 use Rattle.vt_spec.proofs.Common.{allows, is_kind, kind_of, unless}
 use Rattle.vt_spec.specs.declared.attributes.Kind.TheVariants.{White}
 use Rattle.vt_spec.specs.declared.errors.Rule.TheVariants.{B1}
+use Rattle.vt_location.specs.Fronts.{front}
 use Rattle.vt_location.specs.Locations.{location_of}
-use Rattle.vt_looks.specs.Looking.{front}
 use Rattle.vt_tasks.specs.TaskValue.{task_of}
 use Rattle.vt_policy.proofs.ReadLemmas.{left-to-mounter}
 use Rattle.vt_policy.proofs.looking.may_read.Goals as goal

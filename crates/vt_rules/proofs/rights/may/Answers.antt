@@ -1,8 +1,8 @@
 use Rattle.std.proofs.Common.{Some, ap, ◌∙◌}
 use Rattle.vt_spec.proofs.Common.{allows}
+use Rattle.vt_location.specs.Fronts.{front}
 use Rattle.vt_cred.specs.Rights.{right_bits}
 use Rattle.vt_location.specs.Locations.{location_of}
-use Rattle.vt_looks.specs.Looking.{front}
 use Rattle.vt_tasks.specs.TaskValue.{task_of}
 use Rattle.vt_rules.proofs.Alike.{allows-alike}
 use Rattle.vt_rules.proofs.rights.may.Goals as goal
