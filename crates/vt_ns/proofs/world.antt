@@ -12,6 +12,7 @@ pub mod FileParts
 pub mod FileRemoving
 pub mod FileRenaming
 pub mod FilesOpened
+pub mod FilesystemsThere
 pub mod ForkedTasks
 pub mod ListedWorlds
 pub mod MountsOn

@@ -4,7 +4,7 @@ use Rattle.vt_mounting.specs.Detach.Forking.{HasRoom}
 use Rattle.vt_world.specs.WorldValue.{WorldValue, namespace_counted}
 use Rattle.vt_location.specs.declared.locations.Location as code
 use Rattle.vt_location.specs.Locations.{location_of}
-use Rattle.vt_location.specs.Numbers.{counted}
+use Rattle.vt_location.specs.Numbers.{counted, most_counted}
 use Rattle.vt_mount.specs.MountsValue.{mounts_in}
 use Rattle.vt_spec.specs.Lists.{holds_of}
 use Rattle.vt_spec.specs.Machine.Mounts.{Location, Mount, root_of, topmost}
@@ -23,4 +23,4 @@ namespace_root namespace mounts =
 pub record HasRoomToEnter (value : WorldValue) (count : ℕ) : Type 0 where
   pub root : (at : code.Location) → Some (location_of at) ≡ namespace_root (counted count) (mounts_in value.mounts)
       → HasRoom 2 at value.mounts value.filesystems
-  pub tasks : IfSome (namespace_counted value count) (λ entry. entry.tasks < 18446744073709551615)
+  pub tasks : IfSome (namespace_counted value count) (λ entry. entry.tasks < most_counted)

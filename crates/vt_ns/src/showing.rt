@@ -1,8 +1,8 @@
 //! The world, as it is shown to people: what it has, and where in it things are.
-ghost use Rattle.std.specs.Prelude.{◌≡◌, IfOk, map, nat_eq};
+ghost use Rattle.std.specs.Prelude.{◌≡◌, find, is_some, IfOk, map, nat_eq};
 ghost use Rattle.vt_location.specs.Locations.{location_of};
 ghost use Rattle.vt_location.specs.MountValue.{mount_of};
-ghost use Rattle.vt_location.specs.Numbers.{namespace_number};
+ghost use Rattle.vt_location.specs.Numbers.{filesystem_number, namespace_number};
 ghost use Rattle.vt_request.specs.Answers.{spot_of};
 ghost use Rattle.vt_spec.specs.Machine.Listing as listing;
 ghost use Rattle.vt_store.specs.StoreValue.{StandOnLayers};
@@ -11,7 +11,8 @@ ghost use Rattle.vt_world.specs.WorldValue.{world_of};
 
 use crate::world::World;
 use std::alloc::AllocError;
-use vt_location::{Location, Mount, NamespaceId};
+use vt_group::Groups;
+use vt_location::{FilesystemId, Location, Mount, NamespaceId};
 use vt_mount::Mounts;
 use vt_request::Spot;
 use vt_store::Store;
@@ -48,6 +49,29 @@ impl World {
             ≡ map (λ namespace. namespace.number) (world_of self.now).namespaces }
     {
         self.namespaces.keys().as_slice()
+    }
+
+    /// Its peer groups, with their masters.
+    pub fn groups(&self) -> &Groups
+        ensures { result.now ≡ self.now.groups }
+    {
+        &self.groups
+    }
+
+    /// Whether it has a namespace of this number.
+    pub fn has_namespace(&self, namespace: NamespaceId) -> bool
+        ensures { result ≡ is_some (find (λ one. nat_eq (namespace_number namespace) one.number)
+            (world_of self.now).namespaces) }
+    {
+        self.namespaces.contains_key(&namespace)
+    }
+
+    /// Whether it has a filesystem of this number.
+    pub fn has_filesystem(&self, filesystem: FilesystemId) -> bool
+        ensures { result ≡ is_some (find (λ one. nat_eq (filesystem_number filesystem) one.number)
+            (world_of self.now).filesystems) }
+    {
+        self.store.overlay(filesystem).is_some() || self.store.plain().get(filesystem).is_some()
     }
 
     /// Where a directory is, as seen through a mount: its path from the root of the mount, as a list of mounts shows a

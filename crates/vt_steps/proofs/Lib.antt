@@ -3,6 +3,7 @@ pub mod Endings
 pub mod FilesWalked
 pub mod ForkRules
 pub mod LeftToRight
+pub mod MountsFound
 pub mod Refused
 pub mod RoutesAdded
 pub mod RoutesWalked

@@ -1,6 +1,6 @@
 -- What lies in a layer of an overlay of a store is what the world that holds it locks.
 use Rattle.std.proofs.Common.{◌≡◌, refl, sym, ap, subst, ◌∙◌, ⊎_elim, inl, inr, true≢false, ℕ, nat_eq, eq-eqb, eqb-true, Bool, true, false, cond, not, ◌&&◌, ◌||◌, List, [], ◌∷◌, ◌++◌, flat_map, map, Option, Some, None, is_some, unwrap_or, arith}
-use Rattle.vt_spec.proofs.Common.{Among, FileTree, Filesystem, HasOwnParents, IsTree, Layer, Node, Overlay, World, and-false, and_parts, counts_in_layer, entry_from, filesystem_numbered, found_among, has_entry_to, is_locked, is_locked_at, is_overlay, is_plain_layer, is_under, layers_of, lies_in_layer, lies_or_counts_under, list_all, list_any, live_layers, mount_at, none_from_among, of_overlay, or-false, overlays, not-true, common_steps}
+use Rattle.vt_spec.proofs.Common.{Among, FileTree, Filesystem, HasOwnParents, IsTree, Layer, Node, Overlay, World, and-false, and_parts, counts_as_in_layer, entry_from, filesystem_numbered, found_among, has_entry_to, is_locked, is_locked_at, is_overlay, is_plain_layer, is_under, layers_of, lies_in_layer, lies_or_counts_under, list_all, list_any, live_layers, mount_at, none_from_among, of_overlay, or-false, overlays, not-true, common_steps}
 use Rattle.vt_ns.proofs.Common.{FilesystemEntry, Filesystems, IsHeld, StoreValue, WorldValue, among-from_filter, among-map, among_from_all, among_from_list_all, counted, counted_test, entry_of, files_at, filesystem_seen, is_own_number, is_small_node, location_of, no_entry, number_of, numbered_all, overlay_of_store, overlay_seen, overlays_of_store, overlays_seen, with_store, world_of}
 use Rattle.vt_group.proofs.IndexLemmas.{any_flat}
 use Rattle.vt_location.specs.declared.births.Birth.TheVariants.{Here}
@@ -63,16 +63,16 @@ module _ (base : WorldValue) (store : StoreValue) (held : IsHeld (with_store sto
 
   -- no upper inode counts as under a layer
   uncounted : (filesystem number : ℕ) (layer : Layer ℕ)
-      → list_any (counts_in_layer nat_eq world filesystem number layer) (overlays world) ≡ false
+      → list_any (counts_as_in_layer nat_eq world filesystem number layer) (overlays world) ≡ false
   uncounted filesystem number layer =
-      none_from_among (counts_in_layer nat_eq world filesystem number layer) (overlays world) (λ merged m.
+      none_from_among (counts_as_in_layer nat_eq world filesystem number layer) (overlays world) (λ merged m.
       by merged merged.overlay refl (among_from_all (λ (f : Filesystem ℕ).
       of_overlay false (λ overlay. is_some overlay.upper) f ≡ false) world.filesystems held.overlays.read_only merged
       (among-from_filter is_overlay world.filesystems merged m).0))
     where
       by : (merged : Filesystem ℕ) (o : Option (Overlay ℕ)) → merged.overlay ≡ o
           → of_overlay false (λ overlay. is_some overlay.upper) merged ≡ false
-          → counts_in_layer nat_eq world filesystem number layer merged ≡ false
+          → counts_as_in_layer nat_eq world filesystem number layer merged ≡ false
       by merged o e none = grind (arith, common_steps)
 
   -- the layers of its overlays

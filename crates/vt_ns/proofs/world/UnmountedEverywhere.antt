@@ -1,6 +1,6 @@
 -- Mounts are unmounted, with the mounts at the receivers of their parents: umount(2).
 use Rattle.std.proofs.Common.{◌∷◌, ◌≡◌, refl, sym, ap, subst, ◌∙◌, ℕ, nat_eq, eqb-true, Bool, true, false, List, [], map, find, Option, Some, None, option_map, is_some, unwrap_or, length, if◌then◌else◌, append-nil, IsPermutation, All, arith, cond}
-use Rattle.vt_spec.proofs.Common.{Location, Mount, Permit, Task, TaskName, ToUnmount, ToUnmountLazily, World, after_going, chain, detached, going, inheriting, is_going, last_or, lazily_unmounted, list_any, list_any-IsPermutation, lost_a_group, mount_at, mount_numbered, mount_point_left, no_mount, regrouped, regrouped_by, taken_away, unmounted, with_mounts, without_dead_groups, common_steps}
+use Rattle.vt_spec.proofs.Common.{Location, Mount, Permit, Task, TaskName, ToUnmount, ToUnmountLazily, World, after_going, chain, detached, going, inheriting, is_going, last_or, lazily_unmounted, list_any, list_any-IsPermutation, lost_a_group, mount_at, mount_numbered, inherited_mount_point, no_mount, regrouped, regrouped_by, taken_away, unmounted, with_mounts, without_dead_groups, common_steps}
 use Rattle.vt_ns.proofs.Common.{Filesystems, Grouping, Has, IsApplied, IsDone, IsHeld, Kept, LeaveTogether, Merged, MountEntry, Permits, Point, WorldValue, all_from_among, among-map, among_from_all, counted, found_mapped, has_ordered, kept_of, kept_with, location_of, moved_by, numbers_of, permit_fits, point_seen, remade_with, world_of}
 use Rattle.vt_group.specs.Grouping.{are_rising, peers_of}
 use Rattle.vt_group.specs.Together.{GrowsTo}
@@ -50,14 +50,14 @@ fallen_to world gone number place falls =
     none_some e = cc
 
     by : (o : Option (Mount ℕ)) → find (λ (mount : Mount ℕ). nat_eq number mount.number) world.mounts ≡ o
-        → option_map (mount_point_left nat_eq world gone) (unwrap_or o (no_mount number)).mount_point ≡ Some place
+        → option_map (inherited_mount_point nat_eq world gone) (unwrap_or o (no_mount number)).mount_point ≡ Some place
         → (unwrap_or (option_map (after_going nat_eq world gone) o) (no_mount number)).mount_point ≡ Some place
     by None e is = absurd (none_some is)
     by (Some mount) e is =
         let its = eqb-true number mount.number
         (found_in (λ (x : Mount ℕ). nat_eq number x.number) world.mounts mount e).1 in
         ap (λ b. (cond b (detached mount) (record mount {
-          mount_point = option_map (mount_point_left nat_eq world gone) mount.mount_point;
+          mount_point = option_map (inherited_mount_point nat_eq world gone) mount.mount_point;
         })).mount_point) (ap (is_going nat_eq gone) (sym its) ∙ falls.0) ∙ is
 
 -- groups that grow by nothing stay
