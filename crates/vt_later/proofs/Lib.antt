@@ -1,4 +1,9 @@
-pub mod Conditions
-pub mod Refused
-pub mod Tables
-pub mod Told
+mod Calls
+mod Climbing
+mod Forked
+mod Judged
+mod Layered
+mod PastNothing
+mod Renamed
+mod Rows
+mod Walked

@@ -1,2 +1,3 @@
-pub mod Lenience
+pub mod Aims
 pub mod Passing
+pub mod Past

@@ -1,17 +1,31 @@
-use Rattle.std.proofs.Common.{◌∙◌, ◌≡◌, ap, false, nat_eq, sym, true, true≢false}
-use Rattle.vt_spec.proofs.Common.{judge}
+use Rattle.std.proofs.Common.{false, nat_eq, sym, true, true≢false, ◌∙◌, ◌≡◌}
+use Rattle.vt_spec.proofs.Common.{judging}
 use Rattle.vt_request.specs.Requests.{call_of}
 use Rattle.vt_tasks.specs.TaskValue.{task_of}
-use Rattle.vt_later.specs.Lenience.{lenient_looks, lenient_overfills, refused_by}
-use Rattle.vt_later.proofs.Refused.{refused_by-denied}
+use Rattle.vt_later.specs.Passing.{judge_past}
+use Rattle.vt_later.specs.Past.{refusal_past}
+use Rattle.vt_later.proofs.Judged.{a_refusal, answered, no_refusal}
 use Rattle.vt_later.proofs.refusing.refusal.Goals as goal
 
-pub returns : goal.returns
-returns g c =
-    let looks = lenient_looks c.args.passed (g.L.Look.looks c.args.world.now) in
-    let overfills = lenient_overfills c.args.passed (g.L.LookAtMounts.overfills c.args.world.now) in
-    let caller = task_of c.in_ok-caller.caller in
-    refused_by-denied (call_of c.args.call) caller (judge nat_eq looks overfills caller (call_of c.args.call))
-    c.in-Err.deny c.in-Err.ensures.judged (λ same.
+pub returns-in-Ok : goal.returns-in-Ok
+returns-in-Ok g c asked =
+    let looks = g.L.Look.looks c.args.world.now in
+    let overfills = g.L.LookAtMounts.overfills c.args.world.now in
+    let passed = c.args.passed.now in
+    let task = task_of c.args.who.now in
+    let call = call_of c.args.call.now in
+    no_refusal (judge_past looks overfills task call passed)
+    (refusal_past looks task passed overfills (judging nat_eq looks task call))
+    (answered looks task passed overfills (judging nat_eq looks task call)) (c.in-Ok.ensures asked)
+
+pub returns-in-Err-2 : goal.returns-in-Err-2
+returns-in-Err-2 g c asked =
+    let looks = g.L.Look.looks c.args.world.now in
+    let overfills = g.L.LookAtMounts.overfills c.args.world.now in
+    let passed = c.args.passed.now in
+    let task = task_of c.args.who.now in
+    let call = call_of c.args.call.now in
+    a_refusal (judge_past looks overfills task call passed)
+    (refusal_past looks task passed overfills (judging nat_eq looks task call)) c.in-Err.deny
+    (answered looks task passed overfills (judging nat_eq looks task call)) (c.in-Err.ensures asked) (λ same.
     let no : true ≡ false = rw same at (sym c.eq.ensures ∙ c.if-eq.false) in true≢false no)
-    ∙ ap (λ task. refused_by (judge nat_eq looks overfills task (call_of c.args.call))) c.in_ok-caller.ensures

@@ -1,0 +1,49 @@
+use Rattle.std.proofs.Common.{[], ◌∷◌, ◌++◌, ◌||◌, Ok, ap, nat_eq, option_map, refl, sym, ℕ, ◌∙◌}
+use Rattle.vt_spec.proofs.Common.{Location, Place, by_option, file_walk, file_word_rules, make_rules, new_file, open_rules, unless, unnumbered, walk_end}
+use Rattle.vt_spec.specs.declared.errors.Rule.TheVariants.{E2}
+use Rattle.vt_location.specs.Locations.{location_of}
+use Rattle.vt_request.specs.Requests.{access_of}
+use Rattle.vt_tasks.specs.TaskValue.{task_of}
+use Rattle.vt_walk.specs.WalkValue.{place_of}
+use Rattle.vt_later.specs.Passing.{lets_pass, without}
+use Rattle.vt_later.specs.Past.{table_past}
+use Rattle.vt_later.proofs.Rows.{appended}
+use Rattle.vt_later.proofs.Walked.{arrived}
+use Rattle.vt_later.proofs.descriptors.open_or_create.Goals as goal
+
+pub returns-in-Some : goal.returns-in-Some
+returns-in-Some g c asked mode =
+    let looks = g.L.Look.looks c.args.world.now in
+    let passed = c.args.passed.now in
+    let task = task_of c.args.who.now in
+    let place = place_of c.in_ok-place.place in
+    let access = access_of c.args.access in
+    let file = location_of c.in-Some.file in
+    let there = λ (at : Place ℕ). λ (file : Location ℕ). table_past passed (file_word_rules at ++ open_rules looks task file access) in
+    let missing = λ (at : Place ℕ). table_past passed (file_word_rules at
+    ++ make_rules looks task at (unnumbered at (new_file task mode []))) in
+    c.unless.ensures
+    ∙ ap (λ answer. unless (without (lets_pass passed) ((c.is_special.result || place.slash, E2) ∷ [])) answer)
+    (c.opened.ensures asked)
+    ∙ sym (appended (lets_pass passed) ((c.is_special.result || place.slash, E2) ∷ []) (open_rules looks task file access) (Ok tt))
+    ∙ (λ i. table_past passed ((c.is_special.ensures i || place.slash, E2) ∷ open_rules looks task file access))
+    ∙ ap (λ object. by_option (there place) (missing place) (option_map location_of object)) (sym c.in-Some.is)
+    ∙ sym (arrived (walk_end (file_walk nat_eq looks task c.args.path.now)) c.in_ok-place.place
+    (λ at. by_option (there at) (missing at) at.object) (λ seen. refl) c.in_ok-place.ensures.ok)
+
+pub returns-in-None : goal.returns-in-None
+returns-in-None g c asked mode =
+    let looks = g.L.Look.looks c.args.world.now in
+    let passed = c.args.passed.now in
+    let task = task_of c.args.who.now in
+    let place = place_of c.in_ok-place.place in
+    let access = access_of c.args.access in
+    let there = λ (at : Place ℕ). λ (file : Location ℕ). table_past passed (file_word_rules at ++ open_rules looks task file access) in
+    let missing = λ (at : Place ℕ). table_past passed (file_word_rules at
+    ++ make_rules looks task at (unnumbered at (new_file task mode []))) in
+    c.made.ensures asked (new_file task mode [])
+    ∙ (λ i. table_past passed ((c.is_special.ensures i || place.slash, E2)
+    ∷ make_rules looks task place (unnumbered place (new_file task mode []))))
+    ∙ ap (λ object. by_option (there place) (missing place) (option_map location_of object)) (sym c.in-None.is)
+    ∙ sym (arrived (walk_end (file_walk nat_eq looks task c.args.path.now)) c.in_ok-place.place
+    (λ at. by_option (there at) (missing at) at.object) (λ seen. refl) c.in_ok-place.ensures.ok)
