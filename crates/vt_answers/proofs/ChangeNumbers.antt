@@ -1,6 +1,6 @@
 -- What a permit leaves has the world's change number that was there: the policy's last step alone raises it.
 use Rattle.std.proofs.Common.{◌≡◌, refl, sym, ap, ◌∙◌, ℕ, Bool, true, false, cond, nat_eq, List, [], ◌∷◌, Option, Some, None, is_some, filter, flat_map, map, Ok, Err, is_ok, ok_or, not, ◌||◌}
-use Rattle.vt_spec.proofs.Common.{Allowed, Answer, Call, Change, CopyUp, Filesystem, Fresh, Judgement, Layer, Location, Make, Mount, Move, Outcome, Overlay, Permit, Remove, SetBytes, Task, TaskName, ToBind, ToChange, ToClose, ToEnterNamespace, ToExit, ToFork, ToList, ToListMounts, ToMake, ToMountOverlay, ToMountPlain, ToMove, ToOpen, ToOpenNew, ToPivot, ToRead, ToReadPart, ToRemoveDirectory, ToRename, ToSetCredentials, ToSetDirectory, ToSetFlags, ToSetRoot, ToSetType, ToSetUmask, ToStat, ToUnmount, ToUnmountLazily, ToUnshare, ToWritePart, World, after, after_going, apply, bytes_in, deepest_first, denial, evens, filesystem_at, filesystem_changed, filesystems_changed_by, finished, finished_by, folded, going, is_copied_up, is_in_ended, judge_in, list_any, lost_a_group, mount_numbered, mount_tree, mounts_on, named_mounts, namespace_entered, namespaces_ended, node_at, numbers_by, odds, only_looks, overlay_changed, overwritten, pwritten, raised, regrouped, regrouped_by, retyped_mount, taken_away, task_called, unmounted, unmounted_if_there, unshared, with_change, with_copy, with_mounts, with_new_groups, without_mounts_on, without_task}
+use Rattle.vt_spec.proofs.Common.{Allowed, Answer, Call, Change, CopyUp, Filesystem, Fresh, Judgement, Layer, Location, Make, Mount, Move, Outcome, Overlay, Permit, Remove, SetBytes, Task, TaskName, ToBind, ToChange, ToClose, ToEnterNamespace, ToExit, ToFork, ToList, ToListMounts, ToMake, ToMountOverlay, ToMountPlain, ToMove, ToOpen, ToOpenNew, ToPivot, ToRead, ToReadPart, ToRemoveDirectory, ToRename, ToSetCredentials, ToSetDirectory, ToSetFlags, ToSetRoot, ToSetType, ToSetUmask, ToStat, ToUnmount, ToUnmountLazily, ToUnshare, ToWritePart, World, after, after_going, apply, bytes_in, deepest_first, denial, evens, filesystem_at, filesystem_changed, filesystems_changed_by, finished, finished_unless, folded, going, is_copied_up, is_in_ended, judge_in, list_any, lost_a_group, mount_numbered, mount_tree, mounts_on, named_mounts, namespace_entered, namespaces_ended, node_at, numbers_by, odds, only_looks, overlay_changed, overwritten, pwritten, raised, regrouped, regrouped_by, retyped_mount, taken_away, task_called, unmounted, unmounted_if_there, unshared, with_change, with_copy, with_mounts, with_new_groups, without_mounts_on, without_task}
 use Rattle.vt_spec.specs.declared.errors.Rule.TheVariants.{S2}
 use Rattle.vt_answers.specs.Ends.{change_after}
 use Rattle.vt_answers.specs.Numbers.{RaisesTheChangeNumber}
@@ -119,11 +119,11 @@ module _ (world : World ℕ) (name : TaskName) (call : Call) (changed : List ℕ
   abbrev last : Outcome ℕ
   last = finished nat_eq world name call changed outcome
 
-  answer_kept : (looks : Bool) → (finished_by nat_eq looks world name changed outcome).answer ≡ outcome.answer
+  answer_kept : (looks : Bool) → (finished_unless nat_eq looks world name changed outcome).answer ≡ outcome.answer
   answer_kept true = refl
   answer_kept false = refl
 
-  by_looks : (looks : Bool) → (finished_by nat_eq (looks || false) world name changed outcome).world.change
+  by_looks : (looks : Bool) → (finished_unless nat_eq (looks || false) world name changed outcome).world.change
       ≡ cond looks outcome.world.change (raised outcome.world.change)
   by_looks true = refl
   by_looks false = refl
@@ -133,7 +133,7 @@ module _ (world : World ℕ) (name : TaskName) (call : Call) (changed : List ℕ
   last_raises answer told kept =
       let ok : is_ok outcome.answer ≡ true =
       ap is_ok (sym (answer_kept (only_looks call || not (is_ok outcome.answer))) ∙ told) in
-      ap (λ b. (finished_by nat_eq (only_looks call || not b) world name changed outcome).world.change) ok
+      ap (λ b. (finished_unless nat_eq (only_looks call || not b) world name changed outcome).world.change) ok
       ∙ by_looks (only_looks call) ∙ ap (change_after call) kept
 
 -- the policy

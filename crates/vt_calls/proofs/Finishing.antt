@@ -1,6 +1,6 @@
 -- How the policy ends a call that is judged, change numbers aside.
 use Rattle.std.proofs.Common.{◌≡◌, refl, sym, ap, subst, ◌∙◌, ℕ, Bool, true, false, cond, nat_eq, List, [], ◌∷◌, map, Some, Ok, Err, ok_or, ◌||◌, not, is_ok}
-use Rattle.vt_spec.proofs.Common.{Allowed, Answer, Call, FileTree, Filesystem, Fresh, Judgement, Outcome, Permit, SameFiles, SameFilesystems, SameWorlds, Task, TaskName, World, after, apply, call_outcome, denial, filesystems_changed_by, finished, finished_by, judge_in, only_looks, policy, settled, task_called, without_changes}
+use Rattle.vt_spec.proofs.Common.{Allowed, Answer, Call, FileTree, Filesystem, Fresh, Judgement, Outcome, Permit, SameFiles, SameFilesystems, SameWorlds, Task, TaskName, World, after, apply, call_outcome, denial, filesystems_changed_by, finished, finished_unless, judge_in, only_looks, policy, settled, task_called, without_changes}
 use Rattle.vt_spec.specs.declared.errors.Deny.{Deny}
 use Rattle.vt_spec.specs.declared.errors.Rule.TheVariants.{S2}
 use Rattle.vt_laws_rules.proofs.judged.CallsJudged.{call_is_judged_then_applied}
@@ -92,7 +92,7 @@ module _ (fresh : Fresh ℕ) (world : World ℕ) (name : TaskName) (task : Task 
           let left : (policy nat_eq fresh world name call).world
           ≡ world = look_changes_nothing fresh world name call looks in
           let same : policy nat_eq fresh world name call ≡ outcome =
-          policy_is ∙ ap (λ b. finished_by nat_eq (b || not (is_ok outcome.answer)) world name changed outcome) looks in
+          policy_is ∙ ap (λ b. finished_unless nat_eq (b || not (is_ok outcome.answer)) world name changed outcome) looks in
           let kept : (apply nat_eq fresh world task permit).world ≡ world =
           ap (λ (o : Outcome ℕ). o.world) (sym applied) ∙ ap (λ (o : Outcome ℕ). o.world) (sym same) ∙ left in
           let ends : settled nat_eq (apply nat_eq fresh world task permit).world ≡ world = ap (settled nat_eq) kept

@@ -10,6 +10,8 @@ ghost use Rattle.vt_calls.specs.KernelValue.{kernel_world};
 ghost use Rattle.vt_calls.specs.Meets.{Ends};
 ghost use Rattle.vt_calls.specs.Permitted.{IsPermitted};
 
+mod steps;
+
 use crate::applying::apply;
 use std::alloc::Global;
 use std::marker::Model;

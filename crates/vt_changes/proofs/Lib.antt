@@ -1,0 +1,10 @@
+pub mod Changing
+pub mod Directing
+pub mod Ended
+pub mod Following
+pub mod Kept
+pub mod Numbered
+pub mod SameDates
+pub mod Seeing
+pub mod Spending
+pub mod Told

@@ -1,0 +1,5 @@
+pub mod DatedValue
+pub mod Ends
+pub mod Following
+pub mod Kept
+pub mod SeenMounts
