@@ -1,0 +1,5 @@
+pub mod CallTurns
+pub mod Holding
+pub mod Mapped
+pub mod SchedTurns
+pub mod StateTurns

@@ -1,0 +1,75 @@
+//! The trait `TakesTurns`.
+ghost use Rattle.std.specs.Prelude.{◌≡◌, IfErr, IfOk, ℕ, nat_eq, option_map};
+ghost use Rattle.vt_spec.specs.declared.errors.Rule.TheVariants.{S5};
+ghost use Rattle.vt_spec.specs.Errors.{denial};
+ghost use Rattle.vt_spec.specs.Machine.Turns.{filesystem_change_of};
+ghost use Rattle.vt_spec.specs.Machine.World.{World};
+ghost use Rattle.vt_location.specs.Numbers.{filesystem_number};
+ghost use Rattle.vt_request.specs.Requests.{call_of, directive_of};
+ghost use Rattle.vt_answers.specs.Ends.{Directs};
+ghost use Rattle.vt_answers.specs.Numbers.{IsOpened};
+ghost use Rattle.vt_turns.specs.Ends.{EndsDated, IsReady};
+ghost use Rattle.vt_turns.specs.Going.{call_begins, next_met, numbers_in};
+ghost use Rattle.vt_turns.specs.ProgressValue.{met_meant};
+
+use crate::progress::Numbers;
+use std::alloc::{AllocError, Global};
+use vt_location::FilesystemId;
+use vt_request::{Answer, Call, Directive, TaskName};
+use vt_spec::errors::Deny;
+
+/// A world with change numbers, whose tasks make calls in turns.
+pub trait TakesTurns {
+    // the world that the definitions see, with all change numbers
+    ghost world: { Self → World ℕ };
+
+    /// The world before the first call.
+    ///
+    /// S5 (ENOMEM): an allocation failed.
+    fn opening(alloc: Global) -> Result<Self, Deny>
+        ensures opened { IfOk result (λ opened. IsOpened (world opened)) }
+        ensures ready { IfOk result (λ opened. IsReady (world opened)) }
+        ensures memory { IfErr result (λ deny. deny ≡ denial S5) };
+
+    /// What allocates for the world.
+    fn alloc(&self) -> Global;
+
+    /// Does a call of a task, or refuses it by the first rule that fails and changes nothing.
+    ///
+    /// S2 (ESRCH): there is no such task. S5 (ENOMEM): an allocation failed, or a count of uses is full. The other
+    /// rules are those of the call, in its order.
+    fn call(&mut self, name: &TaskName, call: Call<'_>) -> Result<Answer, Deny>
+        ensures { EndsDated world self.old name.now (call_of call.entry) result self.new };
+
+    /// What a directive tells. It is nobody's call, and changes nothing.
+    ///
+    /// S2 (ESRCH): it names a task that does not exist. S5 (ENOMEM): an allocation failed; a list alone takes memory.
+    fn direct(&self, directive: &Directive) -> Result<Answer, Deny>
+        ensures { Directs (world self.now) (directive_of directive.now) result };
+
+    /// The change numbers of a task and of its namespace, if the task exists.
+    fn numbers_of(&self, name: &TaskName) -> Option<Numbers>
+        ensures { result ≡ numbers_in (world self.now) name.now };
+
+    /// The change number of a filesystem; where there is none, the largest one.
+    fn change_of(&self, filesystem: FilesystemId) -> u64
+        ensures { result ≡ filesystem_change_of nat_eq (world self.now) (filesystem_number filesystem) };
+
+    /// Whether the rules that the first turn of a task's call checks let it pass; `false` where there is no such task.
+    fn may_begin(&self, name: &TaskName, call: &Call<'_>) -> bool
+        ensures { result ≡ call_begins (world self.now) name.now (call_of call.now) };
+
+    /// The filesystems that the next word of a task's call meets, after so many; `None` if no word is left, if its step
+    /// fails, or if there is no such task.
+    fn next_word(
+        &self,
+        name: &TaskName,
+        call: &Call<'_>,
+        walked: u64,
+    ) -> Result<Option<Vec<FilesystemId>>, AllocError>
+        ensures { IfOk result (λ met. option_map met_meant met
+            ≡ next_met (world self.now) name.now (call_of call.now) walked) };
+
+    /// Frees the world.
+    fn end(self);
+}

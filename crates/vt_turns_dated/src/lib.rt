@@ -1,0 +1,6 @@
+//! A kernel with its change numbers, whose tasks make calls in turns.
+#![tactic(auto)]
+
+mod kernel;
+
+pub use kernel::TurnKernel;
