@@ -1,3 +1,4 @@
 pub mod Members
 pub mod Outsiders
 pub mod Sets
+pub mod Turns

@@ -1,5 +1,5 @@
 -- The calls of the tasks of a set: with the calls of others between them, as a script has them, and alone (profile).
-use Rattle.std.specs.Prelude.{Bool, List, None, Option, Result, Some, [], false, if◌then◌else◌, length, map, nat_eq, nat_lt, true, ℕ, ⊤, ◌++◌, ◌+◌, ◌||◌, ◌∷◌, ◌≡◌, ◌≤◌}
+use Rattle.std.specs.Prelude.{Bool, List, None, Option, Result, Some, [], false, if◌then◌else◌, length, nat_eq, nat_lt, true, ℕ, ⊤, ◌++◌, ◌+◌, ◌||◌, ◌∷◌, ◌≡◌, ◌≤◌}
 use Rattle.vt_spec.specs.declared.errors.Deny.{Deny}
 use Rattle.vt_spec.specs.Language.Answers.{Answer}
 use Rattle.vt_spec.specs.Language.Calls.{Call, TaskName, same_name}
@@ -11,13 +11,12 @@ use Rattle.vt_spec.specs.Lists.{is_among}
 use Rattle.vt_spec.specs.Machine.Invariants.{IsWorld}
 use Rattle.vt_spec.specs.Machine.Outcomes.{Outcome}
 use Rattle.vt_spec.specs.Machine.Policy.{policy}
-use Rattle.vt_spec.specs.Machine.Run.{Serves, first_world, numbers_for, world_from}
+use Rattle.vt_spec.specs.Machine.Run.{first_world, numbers_for, world_from}
 use Rattle.vt_spec.specs.Machine.Sealed.{sealed}
 use Rattle.vt_spec.specs.Machine.World.{World}
 use Rattle.vt_laws_rules.specs.Numbers.{KeepsTo}
 use Rattle.vt_laws_sealed.specs.Outsiders.{are_all_called}
-use Rattle.vt_laws_members.specs.Changes.Changes.{EndsAlike, IsCallOfTheirs, grown}
-use Rattle.vt_laws_containers.specs.Footholds.{GivesNoFoothold}
+use Rattle.vt_laws_members.specs.Changes.Changes.{grown}
 
 -- a call, with the name of its task
 abbrev pub Asked : Type 0

@@ -3,3 +3,4 @@
 pub mod members;
 pub mod outsiders;
 pub mod sets;
+pub mod turns;

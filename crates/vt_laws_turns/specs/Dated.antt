@@ -1,5 +1,5 @@
 -- Change numbers that are kept beside a world, and how calls raise them (profile).
-use Rattle.std.specs.Prelude.{All, List, None, Ok, Some, false, find, if◌then◌else◌, nat_eq, ℕ, ◌≡◌}
+use Rattle.std.specs.Prelude.{All, List, None, Ok, Some, false, find, if◌then◌else◌, map, nat_eq, ℕ, ◌≡◌}
 use Rattle.std.specs.List.{list_any}
 use Rattle.vt_spec.specs.Language.Calls.{Call, TaskName, same_name}
 use Rattle.vt_spec.specs.Lists.{Fresh}
@@ -10,13 +10,37 @@ use Rattle.vt_spec.specs.Machine.Judge.{judge_in}
 use Rattle.vt_spec.specs.Machine.Permits.{Permit}
 use Rattle.vt_spec.specs.Machine.Policy.{only_looks, policy, same_mounts_in}
 use Rattle.vt_spec.specs.Machine.Run.{Serves}
+use Rattle.vt_spec.specs.Machine.SameWorlds.{SameWorlds}
 use Rattle.vt_spec.specs.Machine.World.{Filesystem, Namespace, Task, World, task_called}
+
+-- Worlds that are the same, with all their change numbers
+pub record SameDated (one other : World ℕ) : Type 0 where
+  pub same : SameWorlds one other
+  pub tasks : one.tasks ≡ other.tasks
+  pub namespaces : one.namespaces ≡ other.namespaces
+  pub filesystems : map (λ (filesystem : Filesystem ℕ). filesystem.change) one.filesystems
+      ≡ map (λ (filesystem : Filesystem ℕ). filesystem.change) other.filesystems
+  pub change : one.change ≡ other.change
 
 -- change numbers, by what has them
 pub record Dates : Type 0 where
   pub tasks : TaskName → ℕ
   pub namespaces : ℕ → ℕ
   pub filesystems : ℕ → ℕ
+
+-- all of them 0
+abbrev pub no_dates : Dates
+no_dates = record { tasks = λ name. 0; namespaces = λ number. 0; filesystems = λ number. 0 }
+
+-- the world with these change numbers of tasks, namespaces and filesystems, and with its own
+abbrev pub dated : Dates → World ℕ → World ℕ
+dated dates world = record world {
+  filesystems = map (λ (filesystem : Filesystem ℕ).
+      record filesystem { change = dates.filesystems filesystem.number }) world.filesystems;
+  namespaces = map (λ (namespace : Namespace ℕ).
+      record namespace { change = dates.namespaces namespace.number }) world.namespaces;
+  tasks = map (λ (task : Task ℕ). record task { change = dates.tasks task.name }) world.tasks;
+}
 
 -- a world has these change numbers
 pub record HasDates (dates : Dates) (world : World ℕ) : Type 0 where
@@ -29,8 +53,7 @@ pub record HasDates (dates : Dates) (world : World ℕ) : Type 0 where
 -- what does not exist has the change number 0
 pub record AreOfTheLiving (dates : Dates) (world : World ℕ) : Type 0 where
   pub tasks : (name : TaskName) → task_called world name ≡ None → dates.tasks name ≡ 0
-  pub namespaces : (number : ℕ)
-      → find (λ (namespace : Namespace ℕ). nat_eq number namespace.number) world.namespaces ≡ None
+  pub namespaces : (number : ℕ) → find (λ (namespace : Namespace ℕ). nat_eq number namespace.number) world.namespaces ≡ None
       → dates.namespaces number ≡ 0
   pub filesystems : (number : ℕ)
       → find (λ (filesystem : Filesystem ℕ). nat_eq number filesystem.number) world.filesystems ≡ None

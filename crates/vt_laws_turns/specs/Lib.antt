@@ -4,3 +4,5 @@ pub mod Frames
 pub mod Walks
 pub mod Holds
 pub mod Dated
+pub mod Alike
+pub mod SameStates

@@ -12,4 +12,5 @@ pub mod frames;
 pub mod holds;
 pub mod played;
 pub mod restarts;
+pub mod same_states;
 pub mod walks;

@@ -1,6 +1,6 @@
 -- The groups of copies, and those that they form with their masters: groups of what is copied, and new ones.
 use Rattle.std.proofs.Common.{arith, ◌≡◌, sym, ap, subst, ◌∙◌, ℕ, nat_eq, Bool, true, false, cond, List, Option, Some, None, find, not, option_map, filter_map}
-use Rattle.vt_spec.proofs.Common.{Among, Copies, Graft, Location, Mount, Propagation, Twig, World, all_groups_made, among-from_filter_map, among-from_flat_map, among-from_map, common_steps, copy_at, copy_type, graft_of, group_made, group_of, groups_up, has_members, image, is_destination, is_member_of, master_after, mount_at, nearest_image, none_is_some, parts_of, same_Some, source_of, then_some, twig_master, twig_of, type_at, when}
+use Rattle.vt_spec.proofs.Common.{Among, Copies, Graft, Location, Mount, Propagation, Twig, World, all_groups_made, among-from_filter_map, among-from_flat_map, among-from_map, common_steps, copy_at, copy_type, graft_of, group_made, group_of, groups_up, has_members, image, is_destination, is_member_of, master_after, mount_at, image_of_nearest_group, none_is_some, parts_of, same_Some, source_of, then_some, twig_master, twig_of, type_at, when}
 use Rattle.vt_laws_mounts.proofs.GroupsUp.{source_from_group}
 
 -- a group with its master
@@ -36,7 +36,7 @@ module _ (base : World ℕ) (new : Copies ℕ) (place : Location ℕ) (moves : B
   found_ours o m (Some group) g e = subst Ours (same_Some _ g e) (image_ours o m group)
 
   nearest_ours : (o : Mount ℕ) → Among o origins → (above : Option ℕ) (g : ℕ)
-      → nearest_image nat_eq base new parts destination (twig o) above ≡ Some g → Ours g
+      → image_of_nearest_group nat_eq base new parts destination (twig o) above ≡ Some g → Ours g
   nearest_ours o m None g e = none_is_some g e
   nearest_ours o m (Some group) g e = found_ours o m (find (has_members nat_eq parts) (groups_up base group)) g e
 
@@ -61,7 +61,7 @@ module _ (base : World ℕ) (new : Copies ℕ) (place : Location ℕ) (moves : B
   made_elsewhere : (o : Mount ℕ) → Among o origins → (entry : ℕ × Option ℕ) (kind : Option ℕ)
       → then_some kind (λ group. when (not (is_member_of nat_eq group destination)) (
         image nat_eq new destination (twig o) group,
-        nearest_image nat_eq base new parts destination (twig o) (base.master group),
+        image_of_nearest_group nat_eq base new parts destination (twig o) (base.master group),
       )) ≡ Some entry → AreOf Ours entry
   made_elsewhere o m entry kind e = grind (arith, common_steps, none_is_some, same_Some, image_ours, nearest_ours)
 
@@ -77,7 +77,7 @@ module _ (base : World ℕ) (new : Copies ℕ) (place : Location ℕ) (moves : B
       by : (p o : Mount ℕ) → Among o origins → (b : Bool) → cond b (twig_master (twig o))
           (then_some (group_of p.propagation) (λ group. when (not (is_member_of nat_eq group destination)) (
             image nat_eq new destination (twig o) group,
-            nearest_image nat_eq base new parts destination (twig o) (base.master group),
+            image_of_nearest_group nat_eq base new parts destination (twig o) (base.master group),
           ))) ≡ Some entry → AreOf Ours entry
       by p o n true h = made_there o n entry h
       by p o n false h = made_elsewhere o n entry (group_of p.propagation) h

@@ -1,6 +1,6 @@
 -- A call of theirs gives others no foothold, if what it is permitted leaves others as they were.
 use Rattle.std.proofs.Common.{arith, ◌≡◌, refl, sym, ap, subst, ◌∙◌, inl, ℕ, nat_eq, true, false, not, true≢false, List, Option, Some, None, Result, Ok, Err, is_ok, IfOk, ◌||◌}
-use Rattle.vt_spec.proofs.Common.{Answer, Call, Fresh, IsWorld, Judgement, Outcome, Permit, Serves, Task, TaskName, World, after, answer-finished_by, apply, common_steps, filesystems_changed, judge_in, locations, members, numbers_raised, only_looks, overfills, policy, same_Some, settled, task_called, filesystems_changed_by}
+use Rattle.vt_spec.proofs.Common.{Answer, Call, Fresh, IsWorld, Judgement, Outcome, Permit, Serves, Task, TaskName, World, after, answer-finished_unless, apply, common_steps, filesystems_changed, judge_in, locations, members, numbers_raised, only_looks, overfills, policy, same_Some, settled, task_called, filesystems_changed_by}
 use Rattle.vt_laws_containers.proofs.Common.{Deny, IsCallOfTheirs, IsSealed, caller_in, every_call_keeps_worlds, grown, is_theirs, left, names_few_groups, ran, sealing_of}
 use Rattle.vt_laws_rules.proofs.denials.Unchanged.{look_changes_nothing}
 use Rattle.vt_laws_rules.proofs.rules.OwnRules.{denial_changes_nothing}
@@ -18,7 +18,7 @@ pub denied_is_no_ok : (fresh : Fresh ℕ) (world : World ℕ) (name : TaskName) 
 denied_is_no_ok fresh world name call task deny called judged =
     let ended : Judgement ℕ → Outcome ℕ = λ j. after world j (apply nat_eq fresh world task) in
     ap (λ o. is_ok (ran name call world fresh o).answer) called
-    ∙ ap is_ok (answer-finished_by (only_looks call || not (is_ok (ended (judge_in nat_eq fresh world task call)).answer))
+    ∙ ap is_ok (answer-finished_unless (only_looks call || not (is_ok (ended (judge_in nat_eq fresh world task call)).answer))
     world name (filesystems_changed_by nat_eq world (judge_in nat_eq fresh world task call))
     (ended (judge_in nat_eq fresh world task call)))
     ∙ ap (λ j. is_ok (ended j).answer) judged
@@ -79,7 +79,7 @@ module _ {world : World ℕ} {names : List TaskName} {name : TaskName} {call : C
           let judgement : Judgement ℕ = judge_in nat_eq fresh world task call in
           let outcome : Outcome ℕ = after world judgement (apply nat_eq fresh world task) in
           let its = looked (caller_in it e) (overfills nat_eq fresh world task) names name call looks in
-          ap (grown names name call) (answer-finished_by _ world name _ _) ∙ after_stays task its.1 _ its.0
+          ap (grown names name call) (answer-finished_unless _ world name _ _) ∙ after_stays task its.1 _ its.0
 
       stays : grown names name call answer_given ≡ names
       stays = by (task_called world name) refl

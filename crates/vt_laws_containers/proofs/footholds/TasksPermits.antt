@@ -1,6 +1,6 @@
 -- Permits to look, to change tasks, and to change files leave others as they were.
-use Rattle.std.proofs.Common.{◌≡◌, refl, sym, ap, subst, ◌∙◌, inl, inr, ⊎_elim, ℕ, nat_eq, Bool, true, false, true≢false, List, Ok, map, not, arith, IfOk, ◌==◌}
-use Rattle.vt_spec.proofs.Common.{cases_Bool, Access, Allowed, Among, Call, Descriptor, Filesystem, Fresh, Location, Make, Permit, Task, TaskName, ToChange, ToClose, ToExit, ToFork, ToList, ToListMounts, ToMake, ToOpen, ToOpenNew, ToRead, ToReadPart, ToSetCredentials, ToSetDirectory, ToSetRoot, ToSetUmask, ToStat, ToWritePart, World, among-from_filter, among-from_map, among-map, apply, common_steps, evens, judge_in, odds, only_looks, replaced_if_called, settled, with_descriptor, without_descriptor, Exit, judging, same_ok}
+use Rattle.std.proofs.Common.{◌≡◌, refl, sym, ap, subst, ◌∙◌, inl, inr, ⊎_elim, ℕ, nat_eq, Bool, true, false, true≢false, List, Ok, map, not, IfOk, ◌==◌}
+use Rattle.vt_spec.proofs.Common.{cases_Bool, Access, Allowed, Among, Call, Descriptor, Filesystem, Fresh, Location, Make, Permit, Task, TaskName, ToChange, ToClose, ToExit, ToFork, ToList, ToListMounts, ToMake, ToOpen, ToOpenNew, ToRead, ToReadPart, ToSetCredentials, ToSetDirectory, ToSetRoot, ToSetUmask, ToStat, ToWritePart, World, among-from_filter, among-from_map, among-map, apply, evens, judge_in, odds, only_looks, replaced_if_called, settled, with_descriptor, without_descriptor, Exit, judging, same_ok}
 use Rattle.vt_laws_containers.proofs.footholds.ServedCalls.{IsServedCall}
 use Rattle.vt_laws_containers.proofs.Common.{IsMember, IsTheirs, StandsOnTheirs, caller_in, directory_theirs, granted_theirs, grown, is_theirs, left, permits_are_for_their_calls, root_theirs, sealing_of, theirs_from}
 use Rattle.vt_laws_sealed.proofs.outsiders.Opening.{inserted_at}

@@ -34,7 +34,8 @@ module _ (sched : Sched ℕ) (names : List TaskName) (name : TaskName) (fresh : 
   by_queue [] turned plain goes = goes_on None turned goes
   by_queue (first ∷ rest) turned plain is = ⊎_elim (goes_on (Some first) _) (answers first _ (plain first refl)) is
 
-  pub still_called : ((first : Queued) → first_of_list (queue_of sched.queues (Someone name)) ≡ Some first
+  pub still_called_after : ((first : Queued) → first_of_list (queue_of sched.queues (Someone name)) ≡ Some first
       → is_directive first.item ≡ false)
       → are_all_called (turn nat_eq sched (Someone name) fresh).sched.world (set_left sched names name fresh) ≡ true
-  still_called plain = by_queue _ (turn nat_eq sched (Someone name) fresh) plain (turn_is sched (Someone name) fresh)
+  still_called_after plain =
+      by_queue _ (turn nat_eq sched (Someone name) fresh) plain (turn_is sched (Someone name) fresh)

@@ -1,7 +1,7 @@
 -- A turn looks at no queue but its own.
-use Rattle.std.proofs.Common.{arith, ◌≡◌, refl, ap, subst, ◌∙◌, inl, inr, sym, ℕ, nat_eq, Bool, true, false, cond, List, [], ◌∷◌, ◌+◌, Option, Some, None, Ok, Err, Result, find, Contains, nat_le, slice_get}
-use Rattle.vt_spec.proofs.Common.{Asks, Call, Calls, Fresh, Item, Progress, Queue, Queued, Refused, Reply, Route, Sched, Someone, Task, TaskName, Turned, Who, World, among_from_contains, call_turn, call_turn_of, common_steps, contains_from_among, entry_rules, first_progress, first_turn, first_turn_by, further, is_among, is_failing, is_overtaken, item_turn, later_turn, looks_of, most_restarts, next_word, queue_of, queue_turn, rest_of, restarted, routes, same_name, same_who, task_called, turn, turn_under_way, unless, word_walked_by, words_of}
-use Rattle.vt_laws_containers.proofs.Common.{Deny, GoesOn, Turn, Turns, left_by, same_whos, shorter, turn_is}
+use Rattle.std.proofs.Common.{arith, ◌≡◌, refl, ap, subst, ◌∙◌, sym, ℕ, nat_eq, Bool, true, false, cond, List, [], ◌∷◌, ◌+◌, Option, Some, None, Ok, Err, Result, find, nat_le, slice_get}
+use Rattle.vt_spec.proofs.Common.{Asks, Call, Calls, Fresh, Item, Progress, Queue, Queued, Refused, Reply, Route, Sched, Someone, Task, TaskName, Turned, Who, World, call_turn, call_turn_of, common_steps, entry_rules, first_progress, first_turn, first_turn_by, further, is_among, is_failing, is_overtaken, item_turn, later_turn, looks_of, most_restarts, next_word, queue_of, queue_turn, rest_of, restarted, routes, same_name, same_who, task_called, turn, turn_under_way, unless, word_walked_by, words_of}
+use Rattle.vt_laws_containers.proofs.Common.{Deny, GoesOn, Turn, Turns, same_whos, shorter, turn_is}
 use Rattle.vt_laws_containers.specs.SealedTurns.OutsidersTurns.{is_of_theirs}
 
 -- two turns have one reply, and leave one world and the same calls under way
@@ -101,41 +101,34 @@ abbrev pub shortened_by : Option Reply → Bool → List Queued → List Queued
 shortened_by None of_it items = items
 shortened_by (Some reply) of_it items = cond of_it (rest_of items) items
 
-pub queue_after : (sched : Sched ℕ) (who : Who) (fresh : Option (Fresh ℕ)) (member : TaskName)
-    → queue_of (turn nat_eq sched who fresh).sched.queues (Someone member)
-    ≡ shortened_by (turn nat_eq sched who fresh).reply (same_who (Someone member) who)
-    (queue_of sched.queues (Someone member))
-queue_after sched who fresh member = by _ _ (turn_is sched who fresh)
+pub queue_after : (sched : Sched ℕ) (who : Who) (fresh : Option (Fresh ℕ)) (other : Who)
+    → queue_of (turn nat_eq sched who fresh).sched.queues other
+    ≡ shortened_by (turn nat_eq sched who fresh).reply (same_who other who) (queue_of sched.queues other)
+queue_after sched who fresh other = by _ _ (turn_is sched who fresh)
   where
     items : List Queued
-    items = queue_of sched.queues (Someone member)
+    items = queue_of sched.queues other
 
-    goes_on : (turned : Turned ℕ) → GoesOn sched turned → queue_of turned.sched.queues (Someone member)
-        ≡ shortened_by turned.reply (same_who (Someone member) who) items
+    goes_on : (turned : Turned ℕ) → GoesOn sched turned
+        → queue_of turned.sched.queues other ≡ shortened_by turned.reply (same_who other who) items
     goes_on turned goes = cc (goes.queues, goes.reply)
 
     by : (list : List Queued) (turned : Turned ℕ) → Turns sched who fresh list turned
-        → queue_of turned.sched.queues (Someone member)
-        ≡ shortened_by turned.reply (same_who (Someone member) who) items
+        → queue_of turned.sched.queues other ≡ shortened_by turned.reply (same_who other who) items
     by list turned goes = grind (arith, common_steps, goes_on, first, shorter)
 
--- Turns of others leave the queues of these tasks.
-pub queues_stay : (kin : List TaskName) (schedule : List Turn) (sched : Sched ℕ)
-    → ((given : Turn) → Contains schedule given → is_of_theirs kin given.0 ≡ false)
+-- A turn of others leaves the queues of these tasks.
+pub queue_stays : (kin : List TaskName) (sched : Sched ℕ) (given : Turn) → is_of_theirs kin given.0 ≡ false
     → (member : TaskName) → is_among same_name member kin ≡ true
-    → queue_of (left_by sched schedule).queues (Someone member) ≡ queue_of sched.queues (Someone member)
-queues_stay kin [] sched apart member theirs = refl
-queues_stay kin (given ∷ rest) sched apart member theirs =
-    queues_stay kin rest (turn nat_eq sched given.0 given.1).sched
-    (λ other c. apart other (contains_from_among (given ∷ rest) other (inr (among_from_contains rest other c))))
-    member theirs ∙ queue_after sched given.0 given.1 member
+    → queue_of (turn nat_eq sched given.0 given.1).sched.queues (Someone member)
+    ≡ queue_of sched.queues (Someone member)
+queue_stays kin sched given apart member theirs = queue_after sched given.0 given.1 (Someone member)
     ∙ ap (λ b. shortened_by (turn nat_eq sched given.0 given.1).reply b (queue_of sched.queues (Someone member)))
     (another (same_who (Someone member) given.0) refl) ∙ whole (turn nat_eq sched given.0 given.1).reply
   where
     another : (b : Bool) → same_who (Someone member) given.0 ≡ b → b ≡ false
     another false e = refl
-    another true e =
-        cc (same_whos (Someone member) given.0 e, apart given (contains_from_among (given ∷ rest) given (inl refl)))
+    another true e = cc (same_whos (Someone member) given.0 e, apart)
 
     whole : (reply : Option Reply)
         → shortened_by reply false (queue_of sched.queues (Someone member)) ≡ queue_of sched.queues (Someone member)

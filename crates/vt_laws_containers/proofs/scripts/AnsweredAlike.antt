@@ -32,6 +32,29 @@ pub used_by_parts : (world other : World ℕ) (names : List TaskName)
     → used_filesystems nat_eq world names ≡ used_filesystems nat_eq other names
 used_by_parts world other names same = cc (same_used world names, same_used other names)
 
+-- Where two worlds have one part, and others no more footholds in the first, they have no more after changes of both
+-- that leave one part and give others no foothold.
+pub no_more_left : {full lone full_now lone_now : World ℕ} {names left : List TaskName}
+    → LeavesOthersOut full full_now names left → LeavesOthersOut lone lone_now names left
+    → part_of nat_eq full names ≡ part_of nat_eq lone names
+    → part_of nat_eq full_now left ≡ part_of nat_eq lone_now left
+    → HasNoMoreFootholds full lone names → HasNoMoreFootholds full_now lone_now left
+no_more_left {full} {lone} {full_now} {lone_now} {names} {left} full_out lone_out parts parts_now no_more filesystem
+    used free = elim (cases_Bool (is_among nat_eq filesystem (used_filesystems nat_eq full names))) [
+      | inl was ↦ cc (
+        full_out.as_before filesystem used was,
+        no_more filesystem (contains_from_among _ _ (among_numbers _ _ was))
+            (sym (lone_out.as_before filesystem used_too (cc (used_both, was))) ∙ free),
+      )
+      | inr new ↦ full_out.none_on_new filesystem used new
+    ]
+  where
+    used_both : used_filesystems nat_eq full names ≡ used_filesystems nat_eq lone names
+    used_both = used_by_parts full lone names parts
+
+    used_too : Contains (used_filesystems nat_eq lone_now left) filesystem
+    used_too = subst (λ list. Contains list filesystem) (used_by_parts full_now lone_now left parts_now) used
+
 -- A run stands here.
 abbrev stand : ℕ → World ℕ → List TaskName → Stand
 stand number world names = record { number = number; world = world; names = names }
@@ -123,24 +146,8 @@ module _ {number : ℕ} {full lone : World ℕ} {names : List TaskName} (both : 
       full_left : LeavesOthersOut full of_full.world names left
       full_left = subst (LeavesOthersOut full of_full.world names) same_left full_out
 
-      used_both : used_filesystems nat_eq full names ≡ used_filesystems nat_eq lone names
-      used_both = used_by_parts full lone names both.parts
-
-      used_left : used_filesystems nat_eq of_full.world left ≡ used_filesystems nat_eq of_lone.world left
-      used_left = used_by_parts of_full.world of_lone.world left parts_left
-
-      no_more_left : HasNoMoreFootholds of_full.world of_lone.world left
-      no_more_left filesystem used alone = elim (cases_Bool _) [
-        | inl was ↦ cc (
-          full_left.as_before filesystem used was,
-          both.no_more filesystem (contains_from_among _ _ (among_numbers _ _ was))
-              (sym (lone_out.as_before filesystem used_too (cc (used_both))) ∙ alone),
-        )
-        | inr new ↦ full_left.none_on_new filesystem used new
-      ]
-        where
-          used_too : Contains (used_filesystems nat_eq of_lone.world left) filesystem
-          used_too = subst (λ list. Contains list filesystem) used_left used
+      still_no_more : HasNoMoreFootholds of_full.world of_lone.world left
+      still_no_more = no_more_left full_left lone_out both.parts parts_left both.no_more
 
       module _ (stays : sealed nat_eq of_lone.world left ≡ true) where
         theirs_leave : Both (number + 1) of_full.world of_lone.world left
@@ -154,7 +161,7 @@ module _ {number : ℕ} {full lone : World ℕ} {names : List TaskName} (both : 
               tasks = full_left.tasks;
               events = full_left.events;
               locations = full_left.locations;
-            }) lone_is parts_left no_more_left stays;
+            }) lone_is parts_left still_no_more stays;
             counted = (let least = both.of_full.counted in omega (arith, least));
             numbers = numbers_left number full name call both.of_full.counted both.of_full.numbers;
           };
@@ -166,7 +173,7 @@ module _ {number : ℕ} {full lone : World ℕ} {names : List TaskName} (both : 
             numbers = numbers_left number lone name call both.of_lone.counted both.of_lone.numbers;
           };
           parts = parts_left;
-          no_more = no_more_left;
+          no_more = still_no_more;
         }
 
 -- Of each call that a run may make no fork names many groups.

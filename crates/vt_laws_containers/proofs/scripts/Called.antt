@@ -1,6 +1,6 @@
 -- Each name of the set that a call leaves is the name of a task.
 use Rattle.std.proofs.Common.{inr, ◌≡◌, ◌≢◌, refl, sym, ap, subst, ◌∙◌, inl, ℕ, nat_eq, Bool, true, false, true≢false, cond, not, List, [], ◌∷◌, ◌++◌, ◌||◌, Option, Some, None, Result, Ok, Err, find, is_ok, is_some, map, ◌+◌, arith}
-use Rattle.vt_spec.proofs.Common.{Allowed, Answer, Call, Child, Exit, Fresh, Judgement, Outcome, Permit, Task, TaskName, ToBind, ToChange, ToClose, ToEnterNamespace, ToExit, ToFork, ToList, ToListMounts, ToMake, ToMountOverlay, ToMountPlain, ToMove, ToOpen, ToOpenNew, ToPivot, ToRead, ToReadPart, ToRemoveDirectory, ToRename, ToSetCredentials, ToSetDirectory, ToSetFlags, ToSetRoot, ToSetType, ToSetUmask, ToStat, ToUnmount, ToUnmountLazily, ToUnshare, ToWritePart, World, after, among-append_right, among-from_filter, among-map, among_from_list_all, and_from, apply, cases_Bool, child_name, child_of, common_steps, filesystems_changed_by, finished_by, found_among, found_passes, judge_in, judging, list_all_from_among, not-true, only_looks, policy, raised, raised_task, replaced_if_called, same_name, same_name_itself, same_task_name, some_from_is_some, task_called, ⊤}
+use Rattle.vt_spec.proofs.Common.{Allowed, Answer, Call, Child, Exit, Fresh, Judgement, Outcome, Permit, Task, TaskName, ToBind, ToChange, ToClose, ToEnterNamespace, ToExit, ToFork, ToList, ToListMounts, ToMake, ToMountOverlay, ToMountPlain, ToMove, ToOpen, ToOpenNew, ToPivot, ToRead, ToReadPart, ToRemoveDirectory, ToRename, ToSetCredentials, ToSetDirectory, ToSetFlags, ToSetRoot, ToSetType, ToSetUmask, ToStat, ToUnmount, ToUnmountLazily, ToUnshare, ToWritePart, World, after, among-append_right, among-from_filter, among-map, among_from_list_all, and_from, apply, cases_Bool, child_name, child_of, common_steps, filesystems_changed_by, finished_unless, found_among, found_passes, judge_in, judging, list_all_from_among, not-true, only_looks, policy, raised, raised_task, replaced_if_called, same_name, same_name_itself, same_task_name, some_from_is_some, task_called, ⊤}
 use Rattle.vt_laws_containers.proofs.Common.{Deny, are_all_called, found_called, grown, left, ran}
 use Rattle.vt_laws_trees.proofs.calls.tasks.TasksLaws.{only_exit_leaves, other_tasks_stay}
 
@@ -68,8 +68,8 @@ module _ (world : World ℕ) (name : TaskName) (call : Call) (fresh : Fresh ℕ)
   by_judgement task (Err deny) = tt
 
   by_end : (b : Bool) (changed : List ℕ) (outcome : Outcome ℕ) → ChildIsThere outcome.world.tasks outcome.answer
-      → ChildIsThere (finished_by nat_eq b world name changed outcome).world.tasks
-      (finished_by nat_eq b world name changed outcome).answer
+      → ChildIsThere (finished_unless nat_eq b world name changed outcome).world.tasks
+      (finished_unless nat_eq b world name changed outcome).answer
   by_end true changed outcome there = there
   by_end false changed outcome there = raised_there name outcome.world.tasks outcome.answer there
 

@@ -1,6 +1,6 @@
 -- Calls that end alike in every world, and the scripts of these.
 use Rattle.std.proofs.Common.{inl, inr, arith, ◌≡◌, refl, sym, ap, ◌∙◌, ℕ, nat_eq, Bool, true, false, true≢false, List, [], ◌∷◌, Some, None, Ok, Err, ◌||◌, is_ok}
-use Rattle.vt_spec.proofs.Common.{Allowed, Bind, Call, Fresh, Judgement, MountOverlay, MountPlain, MoveMount, Permit, Serves, SetType, Task, TaskName, ToBind, ToChange, ToClose, ToEnterNamespace, ToExit, ToFork, ToList, ToListMounts, ToMake, ToMountOverlay, ToMountPlain, ToMove, ToOpen, ToOpenNew, ToPivot, ToRead, ToReadPart, ToRemoveDirectory, ToRename, ToSetCredentials, ToSetDirectory, ToSetFlags, ToSetRoot, ToSetType, ToSetUmask, ToStat, ToUnmount, ToUnmountLazily, ToUnshare, ToWritePart, Unshare, World, common_steps, denied, finished_by, judge_in, only_looks, task_called}
+use Rattle.vt_spec.proofs.Common.{Allowed, Bind, Call, Fresh, Judgement, MountOverlay, MountPlain, MoveMount, Permit, Serves, SetType, Task, TaskName, ToBind, ToChange, ToClose, ToEnterNamespace, ToExit, ToFork, ToList, ToListMounts, ToMake, ToMountOverlay, ToMountPlain, ToMove, ToOpen, ToOpenNew, ToPivot, ToRead, ToReadPart, ToRemoveDirectory, ToRename, ToSetCredentials, ToSetDirectory, ToSetFlags, ToSetRoot, ToSetType, ToSetUmask, ToStat, ToUnmount, ToUnmountLazily, ToUnshare, ToWritePart, Unshare, World, common_steps, denied, finished_unless, judge_in, only_looks, task_called}
 use Rattle.vt_laws_containers.proofs.Common.{cases_Option, EndsAlike, IsCallOfTheirs, names_few_groups, permits_are_for_their_calls, ran, run_by}
 use Rattle.vt_laws_containers.specs.Footholds.{GivesNoFoothold}
 use Rattle.vt_laws_containers.proofs.footholds.PermitFootholds.{is_of_detaching, is_of_files, is_of_removing, is_of_replacing, is_of_tasks}
@@ -113,7 +113,7 @@ module _ {world : World ℕ} {names : List TaskName} {name : TaskName} {call : C
           (ap (λ found. is_ok (ran name call world fresh found).answer) e
           ∙ ap (λ judgement. is_ok (run_by it world fresh task judgement).answer) judged ∙ refused (only_looks call))
         where
-          refused : (b : Bool) → is_ok (finished_by nat_eq (b || true) world name [] (denied world deny)).answer ≡ false
+          refused : (b : Bool) → is_ok (finished_unless nat_eq (b || true) world name [] (denied world deny)).answer ≡ false
           refused true = refl
           refused false = refl
 

@@ -19,7 +19,7 @@ lines_lead grammar number world (line ∷ lines) is counted has =
     (rest.0, subst (λ n. HasEarlierNumbers n (world_from grammar after (number + 1) lines)) (omega arith) rest.1)
 
 -- The opening world has four numbers, which are handed to no line.
-first_numbers : HasEarlierNumbers 1 first_world
+pub first_numbers : HasEarlierNumbers 1 first_world
 first_numbers = record {
   named = first_four;
   keeps = opening_keeps_to_four first_four (λ place. place) refl refl refl refl;

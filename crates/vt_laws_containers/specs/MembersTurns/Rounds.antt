@@ -1,5 +1,5 @@
 -- Several turns of the tasks of a sealed set, with the turns of others between them and without (profile).
-use Rattle.std.specs.Prelude.{Contains, List, Option, Some, [], false, map, nat_eq, true, ℕ, ⊤, ◌∷◌, ◌≡◌}
+use Rattle.std.specs.Prelude.{Contains, List, Option, Some, [], false, map, nat_eq, true, ℕ, ⊤, ◌++◌, ◌∷◌, ◌≡◌}
 use Rattle.vt_spec.specs.Language.Calls.{Call, TaskName, same_name}
 use Rattle.vt_spec.specs.Language.Calls.Call.{Setns}
 use Rattle.vt_spec.specs.Language.Script.Who.{Someone}
@@ -47,11 +47,17 @@ set_after_all sched names [] = names
 set_after_all sched names (round ∷ rest) =
     set_after_all (turn_of_theirs sched round).sched (set_after sched names round) rest
 
--- Turns of outsiders, none in the name of a task that the set ever has (`kin`), and then a turn of theirs, after which
--- the set is sealed off again. Numbers handed in are not in use.
+-- the tasks that the set has before these rounds, and after each of them
+abbrev pub sets_in : Sched ℕ → List TaskName → List Round → List TaskName
+sets_in sched names [] = names
+sets_in sched names (round ∷ rest) =
+    names ++ sets_in (turn_of_theirs sched round).sched (set_after sched names round) rest
+
+-- Turns of outsiders, none in the name of a task that the set has now or later (`kin`), and then a turn of theirs.
+-- Numbers handed in are not in use.
 pub record IsRound (kin : List TaskName) (sched : Sched ℕ) (names : List TaskName) (round : Round) : Type 0 where
   pub outside : AreOutsidersTurns sched names round.others
-  pub apart : (given : Turn) → Contains round.others given → is_of_theirs kin given.0 ≡ false
+  pub unborn : (given : Turn) → Contains round.others given → is_of_theirs kin given.0 ≡ false
   pub theirs : is_among same_name round.name names ≡ true
   pub among_them : (member : TaskName) → IsFirst (left_by sched round.others) (Someone round.name) (Setns member)
       → is_among same_name member names ≡ true
@@ -61,16 +67,13 @@ pub record IsRound (kin : List TaskName) (sched : Sched ℕ) (names : List TaskN
   pub few_groups : (call : Call) → IsFirst (left_by sched round.others) (Someone round.name) call
       → names_few_groups call ≡ true
   pub serves : (given : Fresh ℕ) → round.fresh ≡ Some given → Serves nat_eq (left_by sched round.others).world given
-  pub sealed_off : sealed nat_eq (turn_of_theirs sched round).sched.world (set_after sched names round) ≡ true
-  pub within : (member : TaskName) → is_among same_name member (set_after sched names round) ≡ true
-      → is_among same_name member kin ≡ true
 
 -- rounds, each in the state that those before it leave
-abbrev pub AreRounds : List TaskName → Sched ℕ → List TaskName → List Round → Type 0
-AreRounds kin sched names [] = ⊤
-AreRounds kin sched names (round ∷ rest) =
-    IsRound kin sched names round
-    × AreRounds kin (turn_of_theirs sched round).sched (set_after sched names round) rest
+abbrev pub AreRounds : Sched ℕ → List TaskName → List Round → Type 0
+AreRounds sched names [] = ⊤
+AreRounds sched names (round ∷ rest) =
+    IsRound (sets_in sched names (round ∷ rest)) sched names round
+    × AreRounds (turn_of_theirs sched round).sched (set_after sched names round) rest
 
 -- without the turns of others, the numbers handed in are not in use either, and the set is sealed off after each turn
 pub record GoesAlone (sched : Sched ℕ) (names : List TaskName) (round : Round) : Type 0 where
@@ -87,19 +90,22 @@ GoAlone sched names (round ∷ rest) =
 -- Then their turns have the replies that they have without the turns of others.
 abbrev pub TheirTurnsReplyAsAlone : Type 0
 TheirTurnsReplyAsAlone =
-    (kin : List TaskName) (sched : Sched ℕ) (names : List TaskName) (rounds : List Round) → HasItSealed sched names
-    → HoldsWhatIsSeen sched
-    → ((member : TaskName) → is_among same_name member names ≡ true → is_among same_name member kin ≡ true)
-    → AreRounds kin sched names rounds → GoAlone sched names rounds
+    (sched : Sched ℕ) (names : List TaskName) (rounds : List Round) → HasItSealed sched names
+    → HoldsWhatIsSeen sched → AreRounds sched names rounds → GoAlone sched names rounds
     → their_replies sched rounds ≡ their_replies sched (map alone rounds)
 
 -- They leave the set that they leave without them, with one part, its calls under way and its queues.
 abbrev pub TheirTurnsLeaveAsAlone : Type 0
 TheirTurnsLeaveAsAlone =
-    (kin : List TaskName) (sched : Sched ℕ) (names : List TaskName) (rounds : List Round) → HasItSealed sched names
-    → HoldsWhatIsSeen sched
-    → ((member : TaskName) → is_among same_name member names ≡ true → is_among same_name member kin ≡ true)
-    → AreRounds kin sched names rounds → GoAlone sched names rounds
+    (sched : Sched ℕ) (names : List TaskName) (rounds : List Round) → HasItSealed sched names
+    → HoldsWhatIsSeen sched → AreRounds sched names rounds → GoAlone sched names rounds
     → (set_after_all sched names rounds ≡ set_after_all sched names (map alone rounds))
     × HaveOnePart (state_after sched (map alone rounds)) (state_after sched rounds)
     (set_after_all sched names (map alone rounds))
+
+-- The set is sealed off with the turns of others, too.
+abbrev pub OthersLeaveThemSealed : Type 0
+OthersLeaveThemSealed =
+    (sched : Sched ℕ) (names : List TaskName) (rounds : List Round) → HasItSealed sched names
+    → HoldsWhatIsSeen sched → AreRounds sched names rounds → GoAlone sched names rounds
+    → HasItSealed (state_after sched rounds) (set_after_all sched names rounds)

@@ -1,7 +1,7 @@
 -- The groups that mounts of others form where they are attached: those of others, and new ones.
 use Rattle.std.proofs.Common.{arith, ◌≡◌, refl, sym, ap, subst, ◌∙◌, ◌⊎◌, inl, inr, ⊎_elim, ℕ, nat_eq, Bool, true, false, cond, List, [], ◌∷◌, ◌*◌, Option, Some, None, length, not, ◌+◌, eqb-true, option_map, unwrap_or, filter_map}
 use Rattle.vt_laws_mounts.proofs.letting_go.mounting.Attached.{masters_stay}
-use Rattle.vt_spec.proofs.Common.{Among, Copies, Filesystem, Fresh, Graft, Location, Mount, Private, Propagation, Serves, Shared, Slave, TaskName, Unbindable, World, all_groups_made, among-from_filter, among-from_filter_map, among-from_flat_map, among-from_map, any_among, attach, common_steps, copies_from, copy_at, copy_type, false_from_ne_true, folded, graft_of, group_made, group_of, image, index_in_rows, index_of, index_of_group, is_destination, is_member_of, is_own_mount, is_shared, list_any, master_after, master_of, masters_with, mount_at, nearest_image, none_is_some, other_mounts, own_mounts, parts_of, same_Some, slave_of_heir, then_some, twig_master, twig_of, type_at, type_on_shared, when}
+use Rattle.vt_spec.proofs.Common.{Among, Copies, Filesystem, Fresh, Graft, Location, Mount, Private, Propagation, Serves, Shared, Slave, TaskName, Unbindable, World, all_groups_made, among-from_filter, among-from_filter_map, among-from_flat_map, among-from_map, any_among, attach, common_steps, copies_from, copy_at, copy_type, false_from_ne_true, folded, graft_of, group_made, group_of, image, index_in_rows, index_of, index_of_group, is_destination, is_member_of, is_own_mount, is_shared, list_any, master_after, master_of, masters_with, mount_at, image_of_nearest_group, none_is_some, other_mounts, own_mounts, parts_of, same_Some, slave_of_heir, then_some, twig_master, twig_of, type_at, type_on_shared, when}
 use Rattle.vt_laws_sealed.proofs.Common.{IsNewBy}
 use Rattle.vt_laws_sealed.specs.Part.Seals.{IsApart}
 use Rattle.vt_laws_sealed.proofs.outsiders.OtherMounts.{Foreign, HearsGroup, foreign_above, member_not_new, other_hears_foreign, standing_apart_with}
@@ -107,7 +107,7 @@ module _ {world : World ℕ} {names : List TaskName} {fresh : Fresh ℕ} (it : I
       by false = inr (new_image group origin.number)
 
   nearest_foreign : (origin : Mount ℕ) → Among origin it.mounts → (above : Option ℕ) (group : ℕ)
-      → nearest_image nat_eq base new parts destination (twig_of new (group_of destination.propagation) origin) above
+      → image_of_nearest_group nat_eq base new parts destination (twig_of new (group_of destination.propagation) origin) above
       ≡ Some group → IsForeign group
   nearest_foreign origin m above group e = search (arith, common_steps, none_is_some, same_Some, image_foreign)
 
@@ -151,19 +151,19 @@ module _ {world : World ℕ} {names : List TaskName} {fresh : Fresh ℕ} (it : I
   made_elsewhere : (origin : Mount ℕ) → Among origin it.mounts → (group : ℕ) (entry : ℕ × Option ℕ)
       → when (not (is_member_of nat_eq group destination)) (
         image nat_eq new destination (twig_of new (group_of destination.propagation) origin) group,
-        nearest_image nat_eq base new parts destination (twig_of new (group_of destination.propagation) origin)
+        image_of_nearest_group nat_eq base new parts destination (twig_of new (group_of destination.propagation) origin)
             (world.master group),
       ) ≡ Some entry → IsMade entry
   made_elsewhere origin m group entry e = by (is_member_of nat_eq group destination) refl e
     where
       above : Option ℕ
-      above = nearest_image nat_eq base new parts destination (twig_of new (group_of destination.propagation) origin)
+      above = image_of_nearest_group nat_eq base new parts destination (twig_of new (group_of destination.propagation) origin)
           (world.master group)
 
       by : (b : Bool) → is_member_of nat_eq group destination ≡ b → when (not b) (
         cond b (unwrap_or (group_of (type_at new (group_of destination.propagation) origin))
             (new.image group origin.number)) (new.image group origin.number),
-        nearest_image nat_eq base new parts destination (twig_of new (group_of destination.propagation) origin)
+        image_of_nearest_group nat_eq base new parts destination (twig_of new (group_of destination.propagation) origin)
             (world.master group),
       ) ≡ Some entry → IsMade entry
       by true f h = none_is_some entry h
@@ -186,7 +186,7 @@ module _ {world : World ℕ} {names : List TaskName} {fresh : Fresh ℕ} (it : I
       elsewhere : (part origin : Mount ℕ) → Among origin it.mounts → (o : Option ℕ)
           → then_some o (λ group. when (not (is_member_of nat_eq group destination)) (
             image nat_eq new destination (twig_of new (group_of destination.propagation) origin) group,
-            nearest_image nat_eq base new parts destination (twig_of new (group_of destination.propagation) origin)
+            image_of_nearest_group nat_eq base new parts destination (twig_of new (group_of destination.propagation) origin)
                 (world.master group),
           )) ≡ Some entry → IsMade entry
       elsewhere part origin n None h = none_is_some entry h
@@ -196,7 +196,7 @@ module _ {world : World ℕ} {names : List TaskName} {fresh : Fresh ℕ} (it : I
           → cond b (twig_master (twig_of new (group_of destination.propagation) origin))
           (then_some (group_of part.propagation) (λ group. when (not (is_member_of nat_eq group destination)) (
             image nat_eq new destination (twig_of new (group_of destination.propagation) origin) group,
-            nearest_image nat_eq base new parts destination (twig_of new (group_of destination.propagation) origin)
+            image_of_nearest_group nat_eq base new parts destination (twig_of new (group_of destination.propagation) origin)
                 (world.master group),
           ))) ≡ Some entry → IsMade entry
       by part origin n true h = made_there origin n entry h
@@ -276,10 +276,10 @@ module _ {world : World ℕ} {names : List TaskName} {fresh : Fresh ℕ} (it : I
           (λ x e. none_is_some (image nat_eq new destination (twig_of new (group_of destination.propagation) copy.2) g)
           (sym (ap group_of e))) group h
       elsewhere (Slave g) h =
-          heir (nearest_image nat_eq base new parts destination (twig_of new (group_of destination.propagation) copy.2)
+          heir (image_of_nearest_group nat_eq base new parts destination (twig_of new (group_of destination.propagation) copy.2)
           (Some g)) refl h
         where
-          heir : (o : Option ℕ) → nearest_image nat_eq base new parts destination
+          heir : (o : Option ℕ) → image_of_nearest_group nat_eq base new parts destination
               (twig_of new (group_of destination.propagation) copy.2) (Some g) ≡ o
               → HearsGroup so_far left (slave_of_heir o) group → IsForeign group
           heir None e k = ⊎_elim (λ f. none_is_some group f) (λ f. none_is_some group f) k

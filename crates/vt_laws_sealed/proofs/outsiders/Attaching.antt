@@ -1,6 +1,6 @@
 -- Copies of mounts of others, attached at a mount of others and at its receivers.
 use Rattle.std.proofs.Common.{arith, ◌≡◌, refl, sym, ap, subst, ◌∙◌, ◌⊎◌, inl, inr, ⊎_elim, ℕ, nat_eq, Bool, true, false, cond, true≢false, List, [], ◌∷◌, ◌++◌, ◌*◌, append-nil, append_assoc, Option, Some, None, filter, find, flat_map, is_some, length, map, not, ◌&&◌, ◌||◌, eq-eqb, eqb-true, option_map, unwrap_or, filter_map}
-use Rattle.vt_spec.proofs.Common.{cases_Bool, Among, Copies, Filesystem, Fresh, Graft, Location, Mount, Private, Propagation, Shared, Slave, Stands, Task, TaskName, Unbindable, World, added_mounts, all_locations, among-append, among-filter, among-flat_map, among-from_filter, among-from_flat_map, among-from_map, among-map, among_from_all, among_from_list_all, and_from, and_parts, any_from_among, attach, common_steps, cons_option, contains_from_among, copies_at, copies_from, copy_at, false_from_ne_true, filter_map-append, folded, found_among, found_or_none, found_passes, graft_of, group_of, has_layer_on, holds_of, index_in_rows, index_of, is_at, is_destination, is_member_of, is_member_task, is_own_mount, is_own_namespace, list_all_from_among, list_any, locations, locations_of, map_same, map_twice, master_of, members, mount_at, mount_in, mount_numbered, no_mount, no_outsider_on, none_among, none_from_among, none_is_some, not-true, number-mount_in, other_mounts, outsiders, overlays, own_mounts, parts_of, pushed_onto, pushed_up, receiver_stood_on, receivers, receivers_of, receives, replaced_if_same, rest_of, roots_and_directories, seen_by_descriptor, shares_no_events, stands_at, takes_part, twig_of, when, with_mount, with_moved_mounts}
+use Rattle.vt_spec.proofs.Common.{cases_Bool, Among, Copies, Filesystem, Fresh, Graft, Location, Mount, Private, Propagation, Shared, Slave, Stands, Task, TaskName, Unbindable, World, added_mounts, all_locations, among-append, among-filter, among-flat_map, among-from_filter, among-from_flat_map, among-from_map, among-map, among_from_all, among_from_list_all, and_from, and_parts, any_from_among, attach, common_steps, cons_option, contains_from_among, copies_at, copies_from, copy_at, false_from_ne_true, filter_map-append, folded, found_among, found_or_none, found_passes, graft_of, group_of, has_layer_on, holds_of, index_in_rows, index_of, is_at, is_destination, is_member_of, is_member_task, is_own_mount, is_own_namespace, list_all_from_among, list_any, locations, locations_of, map_same, map_twice, master_of, members, mount_at, mount_in, mount_numbered, no_mount, no_outsider_on, none_among, none_from_among, none_is_some, not-true, number-mount_in, other_mounts, outsiders, overlays, own_mounts, parts_of, pushed_onto, moved_onto_copy, receiver_stood_on, receivers, receivers_of, receives, replaced_if_same, rest_of, roots_and_directories, seen_by_descriptor, shares_no_events, stands_at, takes_part, twig_of, when, with_mount, with_moved_mounts}
 use Rattle.vt_laws_sealed.proofs.Common.{IsNewBy, among-flat_map_filter, found_itself, namespace_below, stands_there}
 use Rattle.vt_laws_sealed.specs.Part.Parts.{SeesTheSame}
 use Rattle.vt_laws_sealed.proofs.part.Kept.{filter_map_map, filter_map_same}
@@ -248,7 +248,7 @@ module _ {world : World ℕ} {names : List TaskName} {fresh : Fresh ℕ} (it : A
 
   -- A mount that stood at the location of a receiver is one of others, and keeps all but its mount point.
   abbrev pushed : Mount ℕ → Mount ℕ
-  pushed mount = pushed_up nat_eq base new tree parts mount
+  pushed mount = moved_onto_copy nat_eq base new tree parts mount
 
   -- what stands at the location of a receiver is in a namespace of others
   stood_in_other : (mount part : Mount ℕ) → Among mount world.mounts

@@ -1,6 +1,6 @@
 -- The filesystems after a call of others that changes something: the change of one, and of its upper layer.
 use Rattle.std.proofs.Common.{inl, arith, ◌≡◌, ◌≢◌, refl, sym, ap, subst, ◌∙◌, inr, ⊎_elim, ℕ, nat_eq, Bool, true, false, true≢false, List, [], ◌∷◌, Option, Some, None, Ok, is_some, not, ◌&&◌, ◌||◌, eq-eqb, eqb-true}
-use Rattle.vt_spec.proofs.Common.{Among, Call, Change, CopyUp, Filesystem, Fresh, HasOwnParents, IsTree, Layer, ListsNumbers, Location, Merge, Overlay, Permit, Task, TaskName, World, among-append_left, among-append_right, among-filter, among-flat_map, among-from_filter, among-from_flat_map, among_from_list_all, among_numbers, and_from, and_parts, any_among, any_from_among, changed, changed_at, common_steps, counts_in_layer, directory_used, false_from_ne_true, files_at, filesystem_at, filesystem_changed, filesystem_numbered, found_among, has_layer_on, is_among, is_among_numbers, is_directory_node, is_locked, is_lower_root, is_overlay, is_plain_layer, is_under, judge_in, layers_of, led, lies_in_layer, lies_only_in_lowers, lies_or_counts_under, list_any, live_layers, live_lowers, looks_of, merge_changed, merge_of, mount_at, no_outsider_on, none_is_some, not-true, numbers_of_change, of_overlay, or_cases, or_left, overfills, overlay_changed, overlay_or, overlays, own_lowers, same_Some, stack_of, task_called, upper_and_work, used_alone, used_directly, used_filesystems, when, wholly_locked, with_change}
+use Rattle.vt_spec.proofs.Common.{Among, Call, Change, CopyUp, Filesystem, Fresh, HasOwnParents, IsTree, Layer, ListsNumbers, Location, Merge, Overlay, Permit, Task, TaskName, World, among-append_left, among-append_right, among-filter, among-flat_map, among-from_filter, among-from_flat_map, among_from_list_all, among_numbers, and_from, and_parts, any_among, any_from_among, changed, changed_at, common_steps, counts_as_in_layer, directory_used, false_from_ne_true, files_at, filesystem_at, filesystem_changed, filesystem_numbered, found_among, has_layer_on, is_among, is_among_numbers, is_directory_node, is_locked, is_lower_root, is_overlay, is_plain_layer, is_under, judge_in, layers_of, led, lies_in_layer, lies_only_in_lowers, lies_or_counts_under, list_any, live_layers, live_lowers, looks_of, merge_changed, merge_of, mount_at, no_outsider_on, none_is_some, not-true, numbers_of_change, of_overlay, or_cases, or_left, overfills, overlay_changed, overlay_or, overlays, own_lowers, same_Some, stack_of, task_called, upper_and_work, used_alone, used_directly, used_filesystems, when, wholly_locked, with_change}
 use Rattle.vt_spec.specs.Machine.Filesystems.{numbers_over}
 use Rattle.vt_laws_sealed.proofs.Common.{cases_Option, AsksWell, AsksWellIf, IsFileTree, IsProper, SparesLocked, SparesLockedIf, calls_are_granted, change_asked, name_found, number_of_filesystem, permits_are_for_their_calls}
 use Rattle.vt_laws_rules.specs.Given.{IsFor}
@@ -152,7 +152,7 @@ module _ {world : World ℕ} {fresh : Fresh ℕ} {names : List TaskName} {name :
       → is_under nat_eq (filesystem_numbered nat_eq world n).files layer.directory object ≡ true
       → lies_or_counts_under nat_eq world n object layer ≡ true
   lower_lies layer n object at under = or_left (lies_in_layer nat_eq world n object layer)
-      (list_any (counts_in_layer nat_eq world n object layer) (overlays world))
+      (list_any (counts_as_in_layer nat_eq world n object layer) (overlays world))
       (and_from (nat_eq n layer.filesystem) _ at under)
 
   lower_locked : (layer : Layer ℕ) → IsLowerOf layer → (n object : ℕ) → nat_eq n layer.filesystem ≡ true

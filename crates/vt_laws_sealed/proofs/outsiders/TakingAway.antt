@@ -1,6 +1,6 @@
 -- Mounts of others that are taken away: what is left for the set.
 use Rattle.std.proofs.Common.{arith, ◌≡◌, refl, sym, ap, subst, ◌∙◌, ⊎_elim, inl, inr, ℕ, nat_eq, Bool, true, false, cond, List, [], Option, Some, None, length, map, option_map}
-use Rattle.vt_spec.proofs.Common.{Among, Location, Mount, Namespace, Private, Stands, Task, TaskName, World, after_going, among-from_filter, among-from_map, among_from_all, common_steps, detached, false_from_ne_true, holds_of, is_going, is_own_mount, is_own_namespace, list_any, lost_a_group, mount_numbered, mount_point_left, mount_point_of_parent, none_is_some, other_mounts, own_mounts, pair-map, regrouped_by, same_Some, sealed, settled, taken_away, with_mounts}
+use Rattle.vt_spec.proofs.Common.{Among, Location, Mount, Namespace, Private, Stands, Task, TaskName, World, after_going, among-from_filter, among-from_map, among_from_all, common_steps, detached, false_from_ne_true, holds_of, is_going, is_own_mount, is_own_namespace, list_any, lost_a_group, mount_numbered, inherited_mount_point, mount_point_of_parent, none_is_some, other_mounts, own_mounts, pair-map, regrouped_by, same_Some, sealed, settled, taken_away, with_mounts}
 use Rattle.vt_laws_sealed.proofs.Common.{OneNumberEach, found_itself, namespace_below, placed_inside}
 use Rattle.vt_laws_trees.proofs.trees.TreesEntered.{chain_ends_at}
 use Rattle.vt_laws_sealed.specs.Part.Seals.{IsApart}
@@ -49,7 +49,7 @@ module _ {world : World ℕ} {names : List TaskName} {New : ℕ → Type 0} (apa
   change = after_going nat_eq before gone
 
   abbrev new_point : Location ℕ → Location ℕ
-  new_point = mount_point_left nat_eq before gone
+  new_point = inherited_mount_point nat_eq before gone
 
   shape : (mount : Mount ℕ) → IsReshaped mount (change mount)
   shape mount = by (goes mount.number)

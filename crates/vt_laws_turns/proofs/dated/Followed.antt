@@ -1,6 +1,6 @@
 -- The change numbers that a granted call leaves.
 use Rattle.std.proofs.Common.{arith, ◌≡◌, refl, sym, ap, subst, ◌∙◌, ℕ, ◌*◌, nat_eq, Bool, true, false, cond, not, ◌||◌, List, Some, ok_or, is_ok}
-use Rattle.vt_spec.proofs.Common.{Allowed, Among, Call, Filesystem, Fresh, IsWorld, Namespace, Permit, Task, TaskName, World, after, all_from_among, among-from_map, among_from_all, apply, child_name, common_steps, denial, filesystems_changed, filesystems_changed_by, finished, finished_by, found_among, judge_in, list_any, numbers_raised, policy, raised, raised_if_changed, raised_namespace, raised_task, same_mounts_in, same_name, settled, task_called}
+use Rattle.vt_spec.proofs.Common.{Allowed, Among, Call, Filesystem, Fresh, IsWorld, Namespace, Permit, Task, TaskName, World, after, all_from_among, among-from_map, among_from_all, apply, child_name, common_steps, denial, filesystems_changed, filesystems_changed_by, finished, finished_unless, found_among, judge_in, list_any, numbers_raised, policy, raised, raised_if_changed, raised_namespace, raised_task, same_mounts_in, same_name, settled, task_called}
 use Rattle.vt_laws_trees.proofs.calls.tasks.TasksLeft.{tasks_left}
 use Rattle.vt_laws_turns.proofs.Common.{S2}
 use Rattle.vt_laws_turns.proofs.dated.NamespacesDated.{namespaces_have, no_filesystem_of, no_namespace, swept_have}
@@ -39,9 +39,9 @@ module _ (world : World ℕ) (fresh : Fresh ℕ) (name : TaskName) (task : Task 
       (after world (judge_in nat_eq fresh world one call) (apply nat_eq fresh world one)))).world) given.called
       ∙ ap (λ judged. (finished nat_eq world name call (filesystems_changed_by nat_eq world judged)
       (after world judged (apply nat_eq fresh world task))).world) given.judged
-      ∙ ap (λ b. (finished_by nat_eq (b || not (is_ok (apply nat_eq fresh world task permit).answer)) world name changed
+      ∙ ap (λ b. (finished_unless nat_eq (b || not (is_ok (apply nat_eq fresh world task permit).answer)) world name changed
       (apply nat_eq fresh world task permit)).world) given.changes
-      ∙ ap (λ b. (finished_by nat_eq (not b) world name changed (apply nat_eq fresh world task permit)).world)
+      ∙ ap (λ b. (finished_unless nat_eq (not b) world name changed (apply nat_eq fresh world task permit)).world)
       (answered fresh world task permit)
 
   module _ (dates : Dates) (called : task_called world name ≡ Some task) (has : HasDates dates world)

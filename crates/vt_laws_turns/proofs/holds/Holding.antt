@@ -1,6 +1,6 @@
 -- Turns keep it that calls under way hold what their tasks see.
 use Rattle.std.proofs.Common.{◌≡◌, ◌≢◌, refl, sym, ap, subst, ◌∙◌, ◌⊎◌, inl, inr, ⊎_elim, ℕ, nat_eq, Bool, true, false, true≢false, cond, not, List, [], ◌∷◌, ◌++◌, ◌*◌, Some, map, reverse, is_some, eq-eqb, eqb-true, arith, Contains}
-use Rattle.vt_spec.proofs.Common.{Among, Call, Fresh, IsWorld, Location, Mount, Namespace, Outcome, Progress, Route, Sched, Serves, Task, TaskName, Turned, World, among-append, among-append_right, among-flat_map, among-from_filter, among-from_map, among-map, among_from_contains, among_from_list_all, among_numbers, apply, call_outcome, common_steps, contains_from_among, filesystem_change_of, finished_by, folded, found_among, is_among, is_listed, is_stale, list_any, looks_of, mount_at, mount_numbered, namespace_change_of, number-mount_in, one_further, policy, routes, same_name, same_name_itself, some_from_is_some, task_called, turn, without_progress, words_of}
+use Rattle.vt_spec.proofs.Common.{Among, Call, Fresh, IsWorld, Location, Mount, Namespace, Outcome, Progress, Route, Sched, Serves, Task, TaskName, Turned, World, among-append, among-append_right, among-flat_map, among-from_filter, among-from_map, among-map, among_from_contains, among_from_list_all, among_numbers, apply, call_outcome, common_steps, contains_from_among, filesystem_change_of, finished_unless, folded, found_among, is_among, is_listed, is_stale, list_any, looks_of, mount_at, mount_numbered, namespace_change_of, number-mount_in, one_further, policy, routes, same_name, same_name_itself, some_from_is_some, task_called, turn, without_progress, words_of}
 use Rattle.std.proofs.lemmas.Grind.{reverse_onto}
 use Rattle.vt_laws_turns.proofs.Common.{call_is_judged_then_applied, every_call_keeps_worlds, found_itself, found_there, hold_one, name_found, names_few_groups, nth_among, numbers_of, other_tasks_stay, own_directory_found, policy_leads, root_found, unused_number}
 use Rattle.vt_laws_turns.specs.Commits.{Turn}
@@ -109,7 +109,7 @@ module _ {world : World ℕ} (is : IsWorld nat_eq world) {fresh : Fresh ℕ} (se
       (λ task permit changed called judged.
       let outcome : call_outcome nat_eq fresh world task call ≡ apply nat_eq fresh world task permit =
       cc (call_is_judged_then_applied fresh world task call, judged) in
-      subst (λ (o : Outcome ℕ). ShowAlike world (finished_by nat_eq false world name changed o).world) (sym outcome)
+      subst (λ (o : Outcome ℕ). ShowAlike world (finished_unless nat_eq false world name changed o).world) (sym outcome)
       (swept_show_alike call is serves called judged))
 
   module _ (other : TaskName) (apart : other ≢ name) (old : Task ℕ) (called : task_called world other ≡ Some old) where

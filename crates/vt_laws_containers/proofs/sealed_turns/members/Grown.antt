@@ -1,6 +1,6 @@
 -- Of the tasks in a world, those of the set that a call leaves were of the set before it.
 use Rattle.std.proofs.Common.{◌≡◌, refl, ℕ, nat_eq, Bool, true, false, not, List, [], ◌+◌, ◌||◌, Option, Some, None, Ok, Err, Result, is_ok, is_some, arith}
-use Rattle.vt_spec.proofs.Common.{Answer, Call, Child, Fresh, IsWorld, Judgement, Outcome, Permit, Task, TaskName, World, after, among-from_filter, any_among, any_from_among, apply, child_name, common_steps, contains_from_among, filesystems_changed_by, finished_by, found_among, is_among, judge_in, only_looks, or_cases, policy, same_name, same_task_name, some_from_is_some, task_called, ⊤}
+use Rattle.vt_spec.proofs.Common.{Answer, Call, Child, Fresh, IsWorld, Judgement, Outcome, Permit, Task, TaskName, World, after, among-from_filter, any_among, any_from_among, apply, child_name, common_steps, contains_from_among, filesystems_changed_by, finished_unless, found_among, is_among, judge_in, only_looks, or_cases, policy, same_name, same_task_name, some_from_is_some, task_called, ⊤}
 use Rattle.vt_laws_containers.proofs.Common.{Deny, grown, left, name_found, ran}
 
 -- a child that is answered has the name of the task's next child
@@ -46,7 +46,7 @@ module _ {world : World ℕ} (names : List TaskName) (name : TaskName) (call : C
   by_judgement task e (Err deny) = λ other there h. h
 
   by_end : (b : Bool) (changed : List ℕ) (outcome : Outcome ℕ) → WereOfTheSet outcome.answer
-      → WereOfTheSet (finished_by nat_eq b world name changed outcome).answer
+      → WereOfTheSet (finished_unless nat_eq b world name changed outcome).answer
   by_end true changed outcome were = were
   by_end false changed outcome were = were
 

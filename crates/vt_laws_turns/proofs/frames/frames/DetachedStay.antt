@@ -1,6 +1,6 @@
 -- No call gives a detached mount other flags, a mount point or a namespace.
 use Rattle.std.proofs.Common.{inl, inr, ◌≡◌, refl, sym, ap, subst, ◌∙◌, ⊎_elim, ℕ, suc, nat_eq, true, false, true≢false, List, [], ◌∷◌, ◌&&◌, Option, Some, None, Ok, filter, map, eqb-true, arith, option_to_list}
-use Rattle.vt_spec.proofs.Common.{cases_Bool, Among, Call, Filesystem, Fresh, IsWorld, Location, Make, Mount, MountFlags, MountInvariants, MountOverlay, Move, Outcome, Permit, Private, Remove, Serves, Task, ToBind, ToChange, ToEnterNamespace, ToExit, ToMake, ToMountOverlay, ToMountPlain, ToMove, ToOpen, ToOpenNew, ToPivot, ToRemoveDirectory, ToRename, ToSetFlags, ToSetType, ToUnmount, ToUnmountLazily, ToUnshare, ToWritePart, World, among-from_filter, among_from_list_all, and_parts, apply, bind_tree, call_outcome, common_steps, copied_mount, evens, finished_by, going, is_copied_up, is_in_ended, judge_in, list_all, looks_of, mount_at, mount_in, mount_lives, mount_numbered, mounted, mounts_of, namespace_entered, new_mount, none_is_some, number-mount_in, number-pivoted_mount, numbers_by, odds, overfills, overlay_at, overlay_filesystem, pivoted_mount, plain_filesystem, settled, taken_away, task_called, unshared, with_new_filesystem, without_mounts_on, without_replaced, without_task}
+use Rattle.vt_spec.proofs.Common.{cases_Bool, Among, Call, Filesystem, Fresh, IsWorld, Location, Make, Mount, MountFlags, MountInvariants, MountOverlay, Move, Outcome, Permit, Private, Remove, Serves, Task, ToBind, ToChange, ToEnterNamespace, ToExit, ToMake, ToMountOverlay, ToMountPlain, ToMove, ToOpen, ToOpenNew, ToPivot, ToRemoveDirectory, ToRename, ToSetFlags, ToSetType, ToUnmount, ToUnmountLazily, ToUnshare, ToWritePart, World, among-from_filter, among_from_list_all, and_parts, apply, bind_tree, call_outcome, common_steps, copied_mount, evens, finished_unless, going, is_copied_up, is_in_ended, judge_in, list_all, looks_of, mount_at, mount_in, mount_lives, mount_numbered, mounted, mounts_of, namespace_entered, new_mount, none_is_some, number-mount_in, number-pivoted_mount, numbers_by, odds, overfills, overlay_at, overlay_filesystem, pivoted_mount, plain_filesystem, settled, taken_away, task_called, unshared, with_new_filesystem, without_mounts_on, without_replaced, without_task}
 use Rattle.vt_laws_turns.proofs.Common.{IsGranted, KeepsView, NamesWhatIsThere, all_mounts_kept, all_permits_fit, call_is_judged_then_applied, calls_are_granted, change_of_files, copy_of_files, flags_are_of_one, found-append, found-map_there, found_itself, found_there, gone_on, is_mount, lazy_detaches_or_keeps, mounting_leaves_a_world, mounts_overlay, mounts_overlayfs, others_are_kept, policy_leads, taken_are_detached, type_is_all_that_changes, writing_of_files}
 use Rattle.vt_laws_mounts.proofs.mounts.MountsAttached.{attach_keeps_mounts, moved_mounts_show}
 use Rattle.vt_laws_turns.specs.Frames.Detached.{DetachedMountsStay}
@@ -197,7 +197,7 @@ detached_mounts_stay world fresh name call number given there none = policy_lead
     (λ task permit changed called granted.
     let outcome : call_outcome nat_eq fresh world task call ≡ apply nat_eq fresh world task permit =
     cc (call_is_judged_then_applied fresh world task call) in
-    subst (λ (o : Outcome ℕ). is_mount (finished_by nat_eq false world name changed o).world number ≡ true
-    → mount_numbered nat_eq (finished_by nat_eq false world name changed o).world number
+    subst (λ (o : Outcome ℕ). is_mount (finished_unless nat_eq false world name changed o).world number ≡ true
+    → mount_numbered nat_eq (finished_unless nat_eq false world name changed o).world number
     ≡ mount_numbered nat_eq world number) (sym outcome)
     (detached_stays call given.is given.serves called granted number there none))

@@ -1,7 +1,7 @@
 -- The namespaces after a permit are those before it, or new.
-use Rattle.std.proofs.Common.{◌≡◌, refl, sym, ap, subst, ◌∙◌, ◌⊎◌, inl, inr, ⊎_elim, ℕ, nat_eq, Bool, true, false, List, [], ◌∷◌, ◌++◌, ◌*◌, Option, Some, None, filter, find, arith}
+use Rattle.std.proofs.Common.{◌≡◌, refl, sym, ap, subst, ◌∙◌, ◌⊎◌, inl, inr, ⊎_elim, ℕ, nat_eq, Bool, true, false, List, [], ◌∷◌, ◌++◌, ◌*◌, ◌+◌, ◌≤◌, length, length-append, Option, Some, None, filter, find, arith}
 use Rattle.vt_spec.proofs.Common.{Among, Fresh, Location, Make, Move, Namespace, Permit, Remove, Task, ToChange, ToEnterNamespace, ToExit, ToMake, ToOpen, ToOpenNew, ToRemoveDirectory, ToRename, ToSetType, ToUnmount, ToUnmountLazily, ToUnshare, ToWritePart, World, among-append, among-from_filter, any_pair, apply, common_steps, evens, has_tasks, is_copied_up, odds, unshared, without_mounts_on, without_replaced, without_task}
-use Rattle.vt_laws_turns.proofs.Common.{change_of_files, copy_of_files, lazy_is_of_mounts, types_are_of_mounts, writing_of_files}
+use Rattle.vt_laws_turns.proofs.Common.{change_of_files, copy_of_files, lazy_is_of_mounts, length-filter_le, types_are_of_mounts, writing_of_files}
 use Rattle.vt_laws_mounts.proofs.ends.Unmounting.{all_but_mounts, unmount_is_of_mounts}
 use Rattle.vt_laws_turns.proofs.frames.Found.{found_one}
 
@@ -81,3 +81,10 @@ module _ (world : World ℕ) (fresh : Fresh ℕ) (task : Task ℕ) where
       (λ none. absurd none) last)
       (among-append world.namespaces (new_one ∷ []) namespace
       (among-from_filter keeps (world.namespaces ++ (new_one ∷ [])) namespace m).0))
+
+  -- one at most is new
+  pub namespaces_few : (permit : Permit ℕ) → length (after permit).namespaces ≤ length world.namespaces + 1
+  namespaces_few = namespaces_after (λ later. length later ≤ length world.namespaces + 1) (omega arith)
+      (λ keeps. let fewer = length-filter_le keeps world.namespaces in omega (arith, fewer))
+      (λ keeps. let fewer = length-filter_le keeps (world.namespaces ++ (new_one ∷ [])) in
+      let all = length-append world.namespaces (new_one ∷ []) in omega (arith, fewer, all))

@@ -1,6 +1,6 @@
 -- A namespace whose change number is what it was has the mounts that it had.
 use Rattle.std.proofs.Common.{◌≡◌, ◌≢◌, refl, sym, ap, subst, ◌∙◌, ◌⊎◌, inl, inr, ⊎_elim, ℕ, nat_eq, Bool, true, false, true≢false, cond, List, ◌*◌, Option, Some, None, Ok, find, map, eqb-true, eq-eqb, arith, option_map, unwrap_or}
-use Rattle.vt_spec.proofs.Common.{Among, Call, Fresh, Mount, Namespace, Outcome, Permit, Task, TaskName, World, after, among-append_right, among-from_filter, among-map, apply, call_outcome, common_steps, finished_by, found_among, found_passes, holds_of, is_stale, judge_in, last_number, mounts_of, namespace_change_of, numbers_raised, or_parts, raised, raised_namespace, same_mounts_in, settled, task_called}
+use Rattle.vt_spec.proofs.Common.{Among, Call, Fresh, Mount, Namespace, Outcome, Permit, Task, TaskName, World, after, among-append_right, among-from_filter, among-map, apply, call_outcome, common_steps, finished_unless, found_among, found_passes, holds_of, is_stale, judge_in, last_number, mounts_of, namespace_change_of, numbers_raised, or_parts, raised, raised_namespace, same_mounts_in, settled, task_called}
 use Rattle.vt_laws_turns.proofs.Common.{call_is_judged_then_applied, policy_leads, unused_number}
 use Rattle.vt_laws_turns.specs.Frames.Unraised.{IsCallIn, IsNamespaceUnraised, UnraisedNamespacesKeepMounts}
 use Rattle.vt_laws_turns.proofs.frames.frames.NamespacesGoOn.{namespace_found, namespaces_go_on}
@@ -98,17 +98,17 @@ module _ (world : World ℕ) (fresh : Fresh ℕ) (given : IsCallIn world fresh) 
 
       -- so it is where the call is judged
       pub call_keeps : IsNamespaceUnraised world
-          (finished_by nat_eq false world name changed (call_outcome nat_eq fresh world task call)).world number
+          (finished_unless nat_eq false world name changed (call_outcome nat_eq fresh world task call)).world number
           → mounts_of nat_eq
-          (finished_by nat_eq false world name changed (call_outcome nat_eq fresh world task call)).world number
+          (finished_unless nat_eq false world name changed (call_outcome nat_eq fresh world task call)).world number
           ≡ mounts_of nat_eq world number
       call_keeps =
           let outcome : call_outcome nat_eq fresh world task call ≡ apply nat_eq fresh world task permit =
           call_is_judged_then_applied fresh world task call
           ∙ ap (λ j. after world j (apply nat_eq fresh world task)) granted in
-          subst (λ (o : Outcome ℕ). IsNamespaceUnraised world (finished_by nat_eq false world name changed o).world
+          subst (λ (o : Outcome ℕ). IsNamespaceUnraised world (finished_unless nat_eq false world name changed o).world
           number
-          → mounts_of nat_eq (finished_by nat_eq false world name changed o).world number ≡ mounts_of nat_eq world
+          → mounts_of nat_eq (finished_unless nat_eq false world name changed o).world number ≡ mounts_of nat_eq world
           number)
           (sym outcome) granted_keeps
 

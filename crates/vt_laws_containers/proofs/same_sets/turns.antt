@@ -1,0 +1,2 @@
+-- What the proofs of src/same_sets/turns.rt use.
+pub mod SealedToo
