@@ -11,3 +11,5 @@ pub record BytesLeft : Type 0 where
   pub before_failure : Option ℕ
   -- how often a read failed
   pub failures : ℕ
+  -- how many bytes the last read gave
+  pub given : ℕ

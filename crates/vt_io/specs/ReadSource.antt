@@ -8,6 +8,8 @@ pub record Reading (R : Type 0) : Type 0 where
   pub limit : ℕ
   -- how often a read failed
   pub failures : ℕ
+  -- how many bytes the last read gave
+  pub given : ℕ
 
 -- known bytes that are within a limit, seen as a list
 pub length-known_le :

@@ -20,6 +20,8 @@ pub struct ReadSource<R: Read + Drop> {
     reader: R,
     limit: u64,
     failures: u64,
+    // How many bytes the last read gave.
+    given: usize,
 }
 
 impl<R: Read + Drop> Model for ReadSource<R> {
@@ -27,18 +29,19 @@ impl<R: Read + Drop> Model for ReadSource<R> {
 
     ghost Value = { Reading R };
 
-    ghost view = { λ s. record { reader = s.reader; limit = s.limit; failures = s.failures } };
+    ghost view = { λ s. record { reader = s.reader; limit = s.limit; failures = s.failures; given = s.given } };
 }
 
 impl<R: Read + Drop> ReadSource<R> {
     /// A source of the bytes that the reader gives from here on.
     pub fn new(reader: R) -> Self
-        ensures { result ≡ record { reader = reader; limit = 2 ^ 64 - 1; failures = 0 } }
+        ensures { result ≡ record { reader = reader; limit = 2 ^ 64 - 1; failures = 0; given = 0 } }
     {
         ReadSource {
             reader,
             limit: u64::MAX,
             failures: 0,
+            given: 0,
         }
     }
 }
@@ -56,6 +59,8 @@ impl<R: Read + Drop> Source for ReadSource<R> {
 
     ghost failures = { λ s. s.failures };
 
+    ghost given = { λ s. s.given };
+
     ghost limited = { λ s. omega arith };
 
     ghost within_limit = { λ s t. length-known_le (R.remaining s.reader) _ t };
@@ -66,6 +71,7 @@ impl<R: Read + Drop> Source for ReadSource<R> {
         match read_retrying(&mut self.reader, &mut buffer[..most]) {
             Ok(count) if count as u64 <= self.limit => {
                 self.limit -= count as u64;
+                self.given = count;
                 Ok(count)
             }
             _ => {

@@ -34,6 +34,9 @@ pub trait Source {
     // How often a read of it failed.
     ghost failures: { Self → ℕ };
 
+    // How many bytes the last read gave that did not fail; none before the first.
+    ghost given: { Self → ℕ };
+
     /// Fills the front of the buffer and answers with how many bytes, where 0 is the end.
     ///
     /// A failed read may have written anything into the buffer.
@@ -46,6 +49,8 @@ pub trait Source {
         ensures no_more_to_come { limit self.new ≤ limit self.old }
         ensures failures_kept { OnOk result (failures self.new ≡ failures self.old) }
         ensures failure_counted { OnErr result (failures self.new ≡ failures self.old + 1) }
+        ensures last_read { IfOk result (λ n. given self.new ≡ n) }
+        ensures last_read_kept { OnErr result (given self.new ≡ given self.old) }
 
         // Where it tells its bytes.
         ensures still_tells { tells self.old → tells self.new }

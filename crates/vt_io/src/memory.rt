@@ -15,6 +15,7 @@ pub struct BytesSource<'a> {
     piece: usize,
     before_failure: Option<usize>,
     failures: u64,
+    given: usize,
 }
 
 impl<'a> Model for BytesSource<'a> {
@@ -22,19 +23,20 @@ impl<'a> Model for BytesSource<'a> {
 
     ghost Value = { BytesLeft };
 
-    ghost view = { λ s. record { rest = s.rest.now; piece = s.piece; before_failure = s.before_failure; failures = s.failures } };
+    ghost view = { λ s. record { rest = s.rest.now; piece = s.piece; before_failure = s.before_failure; failures = s.failures; given = s.given } };
 }
 
 impl<'a> BytesSource<'a> {
     /// A source of these bytes, of which no read fails.
     pub fn new(bytes: &'a [u8], piece: usize) -> Self
-        ensures { result ≡ record { rest = bytes.now; piece = piece; before_failure = None; failures = 0 } }
+        ensures { result ≡ record { rest = bytes.now; piece = piece; before_failure = None; failures = 0; given = 0 } }
     {
         BytesSource {
             rest: bytes,
             piece,
             before_failure: None,
             failures: 0,
+            given: 0,
         }
     }
 
@@ -61,6 +63,8 @@ impl<'a> Source for BytesSource<'a> {
 
     ghost failures = { λ s. s.failures };
 
+    ghost given = { λ s. s.given };
+
     ghost limited = { λ s. omega arith };
 
     ghost within_limit = { λ s t. omega arith };
@@ -74,6 +78,7 @@ impl<'a> Source for BytesSource<'a> {
         let (front, rest) = self.rest.split_at(count);
         buffer[..count].copy_from_slice(front);
         self.rest = rest;
+        self.given = count;
         Ok(count)
     }
 }

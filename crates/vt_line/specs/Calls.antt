@@ -1,11 +1,10 @@
 -- Calls as their words are read, and what becomes of a line that asks for one.
-use Rattle.std.specs.Prelude.{List, None, Option, Some, length, true, ℕ, ⊤, ◌<◌, ◌≡◌, ◌⊎◌, IsSomeAnd, Result, Ok, Err}
+use Rattle.std.specs.Prelude.{List, None, Option, Some, length, option_map, true, ℕ, ⊤, ◌<◌, ◌≡◌, ◌⊎◌, IsSomeAnd, Result, Ok, Err}
 use Rattle.vt_spec.specs.Language.Calls as spec
 use Rattle.vt_spec.specs.Language.Calls.Call.{Fork, Pwrite, Setns, Write}
 use Rattle.vt_spec.specs.Language.Calls.Directive.{AskPeers, AskSealed}
 use Rattle.vt_spec.specs.Language.Script.{Request, Version, call_read, call_words, mount_words, names_no_upper, no_more, path_word, word_then}
 use Rattle.vt_spec.specs.Language.Script.Request.{Asking, Calling}
-use Rattle.vt_spec.specs.Lists.{then_some, when}
 use Rattle.vt_spec.specs.Errors.{denial}
 use Rattle.vt_spec.specs.declared.errors.Deny.{Deny}
 use Rattle.vt_spec.specs.declared.errors.Rule.TheVariants.{S1, S5}
@@ -42,7 +41,7 @@ TakesMemory (Asking directive) = KeepsNames directive
 
 -- a call as the grammar reads it, which knows no options of an upper layer
 abbrev pub as_read : Option spec.Call → Option spec.Call
-as_read asked = then_some asked (λ call. when true (call_read names_no_upper call))
+as_read = option_map (call_read names_no_upper)
 
 -- the call that a version of the language has for a name and words, and the same as the grammar reads it
 abbrev pub call_worded : Version → CallName → List (List ℕ) → Option spec.Call

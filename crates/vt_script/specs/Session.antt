@@ -1,5 +1,5 @@
 -- What a session does between two bytes of a script, and what a run leaves in a sink.
-use Rattle.std.specs.Prelude.{◌≡◌, ℕ, ◌+◌, Bool, List, [], ◌∷◌, ◌++◌, Option, Result, Ok, Err}
+use Rattle.std.specs.Prelude.{◌≡◌, ℕ, ◌+◌, Bool, List, [], ◌∷◌, ◌++◌, length, Option, Result, Ok, Err}
 use Rattle.vt_io.specs.declared.output.Sink.{Ghosts}
 use Rattle.vt_io.specs.Sink.{Wrote, WroteFront}
 use Rattle.vt_io.specs.LineBuffer.{LineSoFar, Holds}
@@ -129,6 +129,25 @@ module _ {W : Type 0} (sink : Ghosts W) where
       (refused : List Bool) × MayBeRefusedIn version (lines_of script) refused × (text : List ℕ) × (more : List ℕ)
       × (sink.written after ≡ sink.written before ++ text) × (script_text_as version refused script ≡ text ++ more)
 
+  -- The source gave so many bytes at its last read, and these are unread. The complete lines that it gave before that
+  -- read are answered. Then the sink was given a beginning of the answers to what this read gave: so it was in these that
+  -- a write failed, and the source was asked no more.
+  pub record EndsAtOnceIn (version : Version) (script : List ℕ) (given : ℕ) (unread : List ℕ) (before after : W) : Type 0 where
+    pub read : List ℕ
+    pub last : List ℕ
+    pub split : script ≡ read ++ last ++ unread
+    pub size : length last ≡ given
+    pub answered : List Bool
+    pub refused : List Bool
+    pub front : List ℕ
+    pub more : List ℕ
+    pub lines : MayBeRefusedIn version (lines_of (whole_lines read)) answered
+    pub all_lines : MayBeRefusedIn version (lines_of (read ++ last)) (answered ++ refused)
+    pub written : sink.written after
+        ≡ sink.written before ++ script_text_as version answered (whole_lines read) ++ front
+    pub text : script_text_as version (answered ++ refused) (read ++ last)
+        ≡ script_text_as version answered (whole_lines read) ++ front ++ more
+
   -- the same of a script of the first version
   abbrev pub AnswersScript : List ℕ → W → W → Type 0
   AnswersScript script before after = AnswersScriptIn One script before after
@@ -138,3 +157,6 @@ module _ {W : Type 0} (sink : Ghosts W) where
 
   abbrev pub BeginsToAnswer : List ℕ → W → W → Type 0
   BeginsToAnswer script before after = BeginsToAnswerIn One script before after
+
+  abbrev pub EndsAtOnce : List ℕ → ℕ → List ℕ → W → W → Type 0
+  EndsAtOnce script given unread before after = EndsAtOnceIn One script given unread before after

@@ -2,8 +2,8 @@
 ghost use Rattle.std.specs.Prelude.{◌≡◌, ◌⊎◌, ◌+◌, ◌<◌, ◌^◌, [], IfErr, IsErrOf, OnOk};
 ghost use Rattle.vt_line.specs.Versions.{version_of};
 ghost use Rattle.vt_script.specs.Progress.{IsOpening};
-ghost use Rattle.vt_script.specs.Session.{AnswersScript, AnswersWholeLines, BeginsToAnswer};
-ghost use Rattle.vt_script.specs.Session.{AnswersScriptIn, AnswersWholeLinesIn, BeginsToAnswerIn};
+ghost use Rattle.vt_script.specs.Session.{AnswersScript, AnswersWholeLines, BeginsToAnswer, EndsAtOnce};
+ghost use Rattle.vt_script.specs.Session.{AnswersScriptIn, AnswersWholeLinesIn, BeginsToAnswerIn, EndsAtOnceIn};
 ghost use Rattle.vt_script.specs.Session.{IsReading, lines_begun, moment};
 ghost use Rattle.vt_script.specs.SessionValue.{state_of};
 
@@ -37,6 +37,9 @@ fn answer_all<C: Calls, R: Source, W: Sink>(
         → AnswersWholeLinesIn W.Sink (version_of session.old.version) (R.rest source.old) (R.rest source.new) sink.old sink.new }
     ensures after_write { IsErrOf result RunFault.Write → R.tells source.old → W.tells sink.old
         → BeginsToAnswerIn W.Sink (version_of session.old.version) (R.rest source.old) sink.old sink.new }
+    ensures at_once { IsErrOf result RunFault.Write → R.tells source.old → W.tells sink.old
+        → EndsAtOnceIn W.Sink (version_of session.old.version) (R.rest source.old) (R.given source.new) (R.rest source.new)
+        sink.old sink.new }
     ensures fault { IfErr result (λ fault. (fault ≡ RunFault.Read) ⊎ (fault ≡ RunFault.Write)) }
     ensures read_failed { IsErrOf result RunFault.Read → R.failures source.new ≡ R.failures source.old + 1 }
     ensures no_read_failed { IsErrOf result RunFault.Read ⊎ (R.failures source.new ≡ R.failures source.old) }
@@ -88,9 +91,11 @@ pub fn run<C: Calls, R: Source, W: Sink>(
     ensures after_read { IsErrOf result RunFault.Read → R.tells source.old → W.tells sink.old
         → AnswersWholeLines W.Sink (R.rest source.old) (R.rest source.new) sink.old sink.new }
 
-    // After a failed write: what the sink took is a beginning of the answers.
+    // After a failed write: what the sink took is a beginning of the answers, and the source was asked no more.
     ensures after_write { IsErrOf result RunFault.Write → R.tells source.old → W.tells sink.old
         → BeginsToAnswer W.Sink (R.rest source.old) sink.old sink.new }
+    ensures at_once { IsErrOf result RunFault.Write → R.tells source.old → W.tells sink.old
+        → EndsAtOnce W.Sink (R.rest source.old) (R.given source.new) (R.rest source.new) sink.old sink.new }
 
     // Memory is refused before anything was read or written.
     ensures memory { IsErrOf result RunFault.Memory → (source.new ≡ source.old) × (sink.new ≡ sink.old) }
@@ -133,9 +138,12 @@ pub fn run_as<C: Calls, R: Source, W: Sink>(
     ensures after_read { IsErrOf result RunFault.Read → R.tells source.old → W.tells sink.old
         → AnswersWholeLinesIn W.Sink (version_of version) (R.rest source.old) (R.rest source.new) sink.old sink.new }
 
-    // After a failed write: what the sink took is a beginning of the answers.
+    // After a failed write: what the sink took is a beginning of the answers, and the source was asked no more.
     ensures after_write { IsErrOf result RunFault.Write → R.tells source.old → W.tells sink.old
         → BeginsToAnswerIn W.Sink (version_of version) (R.rest source.old) sink.old sink.new }
+    ensures at_once { IsErrOf result RunFault.Write → R.tells source.old → W.tells sink.old
+        → EndsAtOnceIn W.Sink (version_of version) (R.rest source.old) (R.given source.new) (R.rest source.new)
+        sink.old sink.new }
 
     // Memory is refused before anything was read or written.
     ensures memory { IsErrOf result RunFault.Memory → (source.new ≡ source.old) × (sink.new ≡ sink.old) }
