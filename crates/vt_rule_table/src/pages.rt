@@ -1,7 +1,7 @@
 //! Each rule with its meaning, the calls that it refuses, where it is written, and a script that shows it.
 use vt_spec::errors::Rule;
 
-/// What is told of a rule.
+/// A rule, as the pages have it.
 pub struct RulePage {
     /// When it refuses a call.
     pub meaning: &'static str,
@@ -14,7 +14,7 @@ pub struct RulePage {
     pub script: &'static str,
 }
 
-/// The rules, in the order in which they are asked.
+/// The rules, in the order in which they are checked.
 pub static RULES: [Rule; 52] = [
     Rule::S1,
     Rule::S2,
@@ -70,7 +70,7 @@ pub static RULES: [Rule; 52] = [
     Rule::M12,
 ];
 
-/// The rules, in the order in which they are asked. Each name of the table itself costs its whole proof.
+/// The rules, in the order in which they are checked. Each name of the table itself costs its whole proof.
 pub fn rules() -> &'static [Rule] {
     &RULES
 }
@@ -563,7 +563,7 @@ static M12: RulePage = RulePage {
     script: "",
 };
 
-/// What is told of a rule.
+/// The row of a rule.
 pub fn page_of(rule: Rule) -> &'static RulePage {
     match rule {
         Rule::S1 => &S1,

@@ -1,8 +1,11 @@
 //! The answers of a run beside those that are wanted.
-ghost use Rattle.std.specs.Prelude.{List, OnOk, map};
+ghost use Rattle.std.specs.Prelude.{List, Some, decimal, map, option_map, ℕ, ◌<◌, ◌^◌, ◌≡◌, ◌++◌, ◌∷◌, IfOk, MatchOption, OnOk};
+ghost use Rattle.vt_line.specs.Versions.{version_of};
 ghost use Rattle.vt_verdict.specs.Compared.{Line, differing, line_of};
+ghost use Rattle.vt_test.specs.Given.{AreTold, Compares, HasNoSpace, told_line, told_of};
 
 use crate::suite::{Script, SuiteFault, scripts};
+use memchr::memchr;
 use std::alloc::{AllocError, Global};
 use vt_lines::answers::answers;
 use vt_lines::lines::first_line;
@@ -12,17 +15,41 @@ pub use vt_verdict::compare::{Answer, Difference, differences, is_met};
 // In how large pieces a script is read.
 const PIECE: usize = 8192;
 
+// What stands before the first space of a line, and what follows the space.
+fn split_space(line: &[u8]) -> Option<(&[u8], &[u8])>
+    ensures { MatchOption result (HasNoSpace line.now)
+        (λ parts. (line.now ≡ parts.0.now ++ 32 ∷ parts.1.now) × HasNoSpace parts.0.now) }
+{
+    let space = memchr(b' ', line)?;
+    let (front, rest) = line.split_at(space);
+    Some((front, &rest[1..]))
+}
+
+// The number that digits write.
+fn number_of(digits: &[u8]) -> Option<u64>
+    ensures { (number : ℕ) → number < 2 ^ 64 → digits.now ≡ decimal number → result ≡ Some number }
+{
+    let Ok(text) = str::from_utf8(digits) else {
+        return None;
+    };
+    text.parse().ok()
+}
+
 // The number at the front of a line of a run, up to a space, and what follows the space.
-fn numbered(line: &[u8]) -> Option<Answer<'_>> {
-    let (digits, text) = str::from_utf8(line).ok()?.split_once(' ')?;
+fn numbered(line: &[u8]) -> Option<Answer<'_>>
+    ensures { (told : ℕ × List ℕ) → line.now ≡ told_line told → told.0 < 2 ^ 64 → option_map told_of result ≡ Some told }
+{
+    let (digits, text) = split_space(line)?;
     Some(Answer {
-        number: digits.parse().ok()?,
-        text: text.as_bytes(),
+        number: number_of(digits)?,
+        text,
     })
 }
 
 /// The lines that a run has written.
-pub fn given_lines(alloc: Global, answers: &[u8]) -> Result<Vec<Answer<'_>>, AllocError> {
+pub fn given_lines(alloc: Global, answers: &[u8]) -> Result<Vec<Answer<'_>>, AllocError>
+    ensures { IfOk result (λ given. AreTold answers.now given.items) }
+{
     let mut lines = Vec::new(alloc);
     let mut rest = answers;
     while let Some((line, after)) = first_line(rest) {
@@ -63,7 +90,10 @@ fn compare_script<C: Calls, T: Comparing>(
     alloc: Global,
     script: &Script<'_>,
     told: &mut T,
-) -> Result<(), AllocError> {
+) -> Result<(), AllocError>
+    ensures { OnOk result (Compares T.goes_on (version_of script.now.version) script.now.text.items script.now.wanted.items
+        told.old told.new) }
+{
     let written = answers::<C>(script.version, alloc, script.text.as_slice(), PIECE)?;
     let given = given_lines(alloc, written.bytes())?;
     compare(alloc, script, given.as_slice(), told)

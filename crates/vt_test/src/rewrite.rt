@@ -26,12 +26,25 @@ fn written(alloc: Global, given: &[Answer<'_>]) -> Result<Vec<u8>, AllocError> {
     Ok(text)
 }
 
+// The answer to a line that is none of the language.
+const REFUSED: &[u8] = b"deny 22 EINVAL S1";
+
 // The changes of scripts, as they are answered. An allocation that fails is noted.
 #[derive(Drop)]
 struct Changes {
     alloc: Global,
     all: Vec<Change>,
+    // How many of the lines are S1.
+    refused: u64,
     failed: bool,
+}
+
+// Whether an answer is that to a line that is none of the language.
+fn is_refused(given: &[Answer<'_>]) -> bool {
+    match given.first() {
+        Some(answer) => answer.text == REFUSED,
+        None => false,
+    }
 }
 
 impl Comparing for Changes {
@@ -40,6 +53,9 @@ impl Comparing for Changes {
     fn tell(&mut self, script: &Script<'_>, found: &[Difference<'_>]) {
         for one in found {
             let line = script.before.saturating_add(one.number);
+            self.refused = self
+                .refused
+                .saturating_add(u64::from(is_refused(one.given)));
             match written(self.alloc, one.given) {
                 Ok(answers) => self.failed |= self.all.push(Change { line, answers }).is_err(),
                 Err(_) => self.failed = true,
@@ -123,6 +139,8 @@ pub struct Rewritten {
     pub text: Vec<u8>,
     /// How many lines have other answers.
     pub changes: usize,
+    /// How many of them are S1.
+    pub refused: u64,
 }
 
 /// The file, whose scripts are in a version of their language, with the given answers in the place of those that are
@@ -136,6 +154,7 @@ pub fn with_given_answers<C: Calls>(
         changes: Changes {
             alloc,
             all: Vec::new(alloc),
+            refused: 0,
             failed: false,
         },
         made: 0,
@@ -147,6 +166,7 @@ pub fn with_given_answers<C: Calls>(
         Ok(()) => Ok(Rewritten {
             text: rewriting.text,
             changes: rewriting.made,
+            refused: rewriting.changes.refused,
         }),
         Err(fault) => Err(fault),
     }

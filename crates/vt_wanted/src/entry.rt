@@ -121,8 +121,8 @@ pub fn entry_of(line: &[u8]) -> Entry<'_>
     line_of(line, before_mark(line))
 }
 
-/// The calls of a file, a line for each of its lines: without the answers that they want, and empty where the line is
-/// a name or goes on with an answer.
+/// The calls of a file, a line for each of its lines, without the answers that they want. It is empty for the name of
+/// a script, and for a further line of an answer.
 pub fn calls_of(alloc: Global, file: &[u8]) -> Result<Vec<u8>, AllocError>
     ensures { IfOk result (λ calls. calls.items ≡ calls_of file.now) }
 {

@@ -35,7 +35,7 @@ impl<'a> VersionWord<'a> {
         }
     }
 
-    /// The word as it is told.
+    /// The word as it is shown.
     pub fn shown(self) -> &'a str {
         str::from_utf8(self.text).unwrap_or("..")
     }
