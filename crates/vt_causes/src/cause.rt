@@ -27,9 +27,9 @@ pub enum About {
 #[derive(Clone, Copy)]
 pub struct Cause<'a> {
     pub about: About,
-    /// Plain words. `{NAME}` stands where a part of this name is told.
+    /// Plain words. `{NAME}` is replaced by the part of this name.
     pub words: &'static str,
-    /// The caller, or the task that is asked for.
+    /// The caller, or the task that the rule looked for.
     pub task: &'a TaskName,
     /// What the rule looked at, and what stands beside it.
     pub at: Option<Location>,
@@ -183,4 +183,13 @@ impl<'a> Cause<'a> {
             _ => self.holds_of_members(world).unwrap_or_default(),
         }
     }
+}
+
+/// That there is no task of a name: S2.
+pub fn no_task<'a>(name: &'a TaskName) -> Cause<'a> {
+    Cause::new(
+        About::Rule(Rule::S2),
+        "there is no task {task}{since}",
+        name,
+    )
 }

@@ -1,25 +1,13 @@
-//! Why a rule refuses a call, or why tasks are not sealed off: plain words, and the objects, mounts and numbers that
-//! stand in them.
+//! Causes: why a rule refuses a call, or why tasks are not sealed off, as plain words with the objects, mounts and numbers
+//! that stand in them. And what they are found in: the paths of a call, where these lead, and what tasks have.
 #![tactic(auto)]
 
 pub mod asked;
 mod cause;
-mod causes;
-mod entries;
-mod events;
-mod layers;
-mod mounts;
-mod paths;
-mod refusal;
-mod sealing;
-mod tasks;
+pub mod events;
 mod uses;
 mod walked;
 
-pub use cause::{About, Cause};
-pub use causes::{cause_of, no_task};
-pub use paths::MOST_LINKS;
-pub use refusal::Refusal;
-pub use sealing::why_unsealed;
+pub use cause::{About, Cause, no_task};
 pub use uses::{Held, Use, uses_in};
-pub use walked::{Walked, Walks};
+pub use walked::{MOST_LINKS, Walked, Walks};

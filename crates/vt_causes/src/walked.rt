@@ -2,6 +2,9 @@
 use vt_location::Location;
 use vt_spec::errors::Rule;
 
+/// The most symlinks of a path that are followed.
+pub const MOST_LINKS: usize = 40;
+
 /// Where a walk along a path came to.
 #[derive(Clone, Copy)]
 pub struct Walked {

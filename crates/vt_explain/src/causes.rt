@@ -1,5 +1,4 @@
 //! A cause as it is told, with the line since which it holds.
-use crate::earlier::Earlier;
 use crate::head::Asked;
 use crate::lines::line_at;
 use std::alloc::{AllocError, Global};
@@ -7,6 +6,7 @@ use vt_causes::Cause;
 use vt_check::diagnose::diagnosis;
 use vt_check::draft::Draft;
 use vt_check::object::Object;
+use vt_holders::Earlier;
 use vt_ns::World;
 use vt_script::Version;
 use vt_sections::causes::{Since, Telling, Told};

@@ -69,7 +69,7 @@ fn push_head_text(
     text.push("LINE ");
     text.push_number(asked.line.number);
     text.push(": ");
-    text.push_bytes(asked.line.text);
+    text.push_bytes(asked.line.text.trim_ascii_end());
     text.push("\n  answer       ");
     text.push_draft(answer);
     if let Some(rule) = rule {
@@ -140,7 +140,7 @@ fn push_head_object(
     put_rule(&mut object, rule);
     object.put("also", names_of(asked.alloc, later));
     object.put("cause", cause_value(told));
-    object.put_bytes("text", asked.line.text);
+    object.put_bytes("text", asked.line.text.trim_ascii_end());
     object.push_line(text);
 }
 

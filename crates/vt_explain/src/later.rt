@@ -1,16 +1,15 @@
 //! The later rules that a refused line would fail too.
-ghost use Rattle.std.specs.Prelude.{◌≡◌, ◌++◌, List, IfOk, OnOk};
+ghost use Rattle.std.specs.Prelude.{◌≡◌, ◌++◌, ◌∷◌, [], drop, List, IfOk, OnOk};
 ghost use Rattle.vt_spec.specs.declared.errors.Rule.{Rule};
 ghost use Rattle.vt_spec.specs.Language.Calls.{Call};
 ghost use Rattle.vt_line.specs.Versions.{version_of};
 ghost use Rattle.vt_tasks.specs.TaskValue.{task_of};
-ghost use Rattle.vt_later.specs.declared.passed.Passed.{Passed};
-ghost use Rattle.vt_later.specs.Passing.{IsWithin};
+ghost use Rattle.vt_later.specs.Passing.{MountersStayAsked};
 ghost use Rattle.vt_explain.specs.LaterRules.{IsCallIn, RefuseInTurn, refusal};
 
 use std::alloc::{AllocError, Global};
 use vt_check::draft::Draft;
-use vt_later::{Passed, refusal};
+use vt_later::{is_among, refusal};
 use vt_layers::LookAtLayers;
 use vt_line::line::Line;
 use vt_script::Version;
@@ -33,17 +32,16 @@ pub struct Refused<'a, L: LookAtLayers> {
 // The rule that refuses the line where these are let pass, if one does.
 fn refusal_of<L: LookAtLayers>(
     refused: &Refused<'_, L>,
-    passed: Passed,
+    passed: &[Rule],
 ) -> Result<Option<Rule>, AllocError>
-    ensures { IfOk result (λ rule. (call : Call) → IsCallIn (version_of refused.now.version) refused.now.line.now call
+    ensures { MountersStayAsked (L.looks refused.now.world.now) → IfOk result (λ rule. (call : Call)
+        → IsCallIn (version_of refused.now.version) refused.now.line.now call
         → rule ≡ refusal (L.looks refused.now.world.now) (L.overfills refused.now.world.now)
-        (task_of refused.now.who.now) call passed) }
+        (task_of refused.now.who.now) call passed.now) }
 {
     let mut texts = None;
     match Line::parse_as(refused.version, refused.alloc, refused.line, &mut texts) {
-        Ok(Line::Call(_, call)) => {
-            refusal(refused.alloc, refused.world, refused.who, call, passed)
-        }
+        Ok(Line::Call(_, call)) => refusal(refused.world, refused.who, &call, passed),
         Ok(_) => Ok(None),
         Err(deny) => {
             if deny.rule == Rule::S5 {
@@ -54,49 +52,56 @@ fn refusal_of<L: LookAtLayers>(
     }
 }
 
-// Adds so many rules that refuse the line where these are let pass and the last one.
+// Adds so many rules that refuse the line where those that are there are let pass.
 fn push_rules_behind<L: LookAtLayers>(
     refused: &Refused<'_, L>,
-    passed: Passed,
-    last: Rule,
     most: u8,
     rules: &mut Vec<Rule>,
 ) -> Result<(), AllocError>
-    ensures { OnOk result ((call : Call) → IsCallIn (version_of refused.now.version) refused.now.line.now call
+    ensures { OnOk result (MountersStayAsked (L.looks refused.now.world.now) → (call : Call)
+        → IsCallIn (version_of refused.now.version) refused.now.line.now call
         → (told : List Rule) × (rules.new.items ≡ rules.old.items ++ told)
         × RefuseInTurn (refusal (L.looks refused.now.world.now) (L.overfills refused.now.world.now)
-        (task_of refused.now.who.now) call) passed last told) }
+        (task_of refused.now.who.now) call) most rules.old.items told) }
 {
     if most == 0 {
         return Ok(());
     }
-    let Some(more) = passed.with(last) else {
+    let Some(rule) = refusal_of(refused, rules.as_slice())? else {
         return Ok(());
     };
-    match refusal_of(refused, more)? {
-        Some(rule) if rule != last => {
-            rules.push(rule)?;
-            push_rules_behind(refused, more, rule, most - 1, rules)
-        }
-        _ => Ok(()),
+    if is_among(rule, rules.as_slice()) {
+        return Ok(());
+    }
+    rules.push(rule)?;
+    push_rules_behind(refused, most - 1, rules)
+}
+
+// The rules behind the first.
+fn behind_first(rules: &[Rule]) -> &[Rule]
+    ensures { result.now ≡ drop 1 rules.now }
+{
+    match rules.split_first() {
+        Some((_, behind)) => behind,
+        None => rules,
     }
 }
 
-/// The rules that refuse a line after the one that did, in the policy's order: each where those before it are let pass.
-/// Behind a rule that cannot be let pass none is told.
+/// The rules that refuse a line behind the one that did, in the policy's order: each where those before it are let pass,
+/// at most 16. Behind a rule that cannot be let pass none is told.
 pub fn later_rules<L: LookAtLayers>(
     refused: &Refused<'_, L>,
     first: Rule,
 ) -> Result<Vec<Rule>, AllocError>
-    ensures { IfOk result (λ rules. (call : Call)
+    ensures { MountersStayAsked (L.looks refused.now.world.now) → IfOk result (λ rules. (call : Call)
         → IsCallIn (version_of refused.now.version) refused.now.line.now call
-        → (passed : Passed) × ((other : Passed) → IsWithin passed other)
-        × RefuseInTurn (refusal (L.looks refused.now.world.now) (L.overfills refused.now.world.now)
-        (task_of refused.now.who.now) call) passed first rules.items) }
+        → RefuseInTurn (refusal (L.looks refused.now.world.now) (L.overfills refused.now.world.now)
+        (task_of refused.now.who.now) call) 16 (first ∷ []) rules.items) }
 {
     let mut rules = Vec::new(refused.alloc);
-    push_rules_behind(refused, Passed::least(), first, MOST, &mut rules)?;
-    Ok(rules)
+    rules.push(first)?;
+    push_rules_behind(refused, MOST, &mut rules)?;
+    Vec::from_slice(refused.alloc, behind_first(rules.as_slice()))
 }
 
 /// Appends rules, each with its error.

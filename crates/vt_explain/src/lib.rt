@@ -3,14 +3,10 @@
 #![tactic(auto)]
 
 mod causes;
-mod earlier;
 mod explaining;
 mod head;
-mod holders;
 mod later;
 mod lines;
-mod locks;
-mod mounters;
 mod refused;
 mod sealed;
 

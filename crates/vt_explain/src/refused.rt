@@ -1,18 +1,19 @@
 //! A refused call: why, which later rules refuse it too, and who holds, locks or mounted what is in the way.
 use crate::causes::told_since;
-use crate::earlier::{Earlier, earlier_lines};
 use crate::head::{Asked, push_head};
-use crate::holders::{self, Look, add_holders};
 use crate::later::{Refused as Judged, later_rules};
-use crate::locks::{self, add_locks};
-use crate::mounters::{self, add_mounter};
 use std::alloc::AllocError;
-use vt_causes::{Cause, Refusal, Use, Walked, Walks, cause_of, no_task, uses_in};
+use vt_causes::{Cause, Use, Walked, Walks, no_task, uses_in};
 use vt_check::draft::Draft;
+use vt_holders::holders::{self, Look, add_holders};
+use vt_holders::locks::{self, add_locks};
+use vt_holders::mounters::{self, add_mounter};
+use vt_holders::{Earlier, earlier_lines};
 use vt_line::line::Line;
 use vt_lines::reading::{free, reading};
 use vt_location::NamespaceId;
 use vt_ns::World;
+use vt_refusals::{Refusal, cause_of};
 use vt_request::{Answer, Call, CallKind, TaskName};
 use vt_sections::report::Section;
 use vt_show::picture::Picture;
@@ -108,17 +109,25 @@ fn push_of_paths(refused: Refused<'_>, uses: &[Use<'_>], earlier: &Earlier<'_>, 
     push_of_path(refused.asked, &look, refused.rule, walks.layer, text);
 }
 
+// The rule of which is told who holds, locks or mounted what is in the way, if there is one: that of the answer, or B1
+// behind it.
+fn told_rule(rule: Rule, later: &[Rule]) -> Option<Rule> {
+    match rule {
+        Rule::M8 | Rule::P1 | Rule::L1 | Rule::W5 | Rule::B1 => Some(rule),
+        _ if later.contains(&Rule::B1) => Some(Rule::B1),
+        _ => None,
+    }
+}
+
 // Appends who holds, locks or mounted what is in the way, of some rules.
-fn push_tables(refused: Refused<'_>, earlier: &Earlier<'_>, text: &mut Draft) {
+fn push_tables(refused: Refused<'_>, later: &[Rule], earlier: &Earlier<'_>, text: &mut Draft) {
     if refused.picture.failed || earlier.failed {
         text.fail();
     }
-    if !matches!(
-        refused.rule,
-        Rule::M8 | Rule::P1 | Rule::L1 | Rule::W5 | Rule::B1
-    ) {
+    let Some(rule) = told_rule(refused.rule, later) else {
         return;
-    }
+    };
+    let refused = Refused { rule, ..refused };
     match uses_in(refused.world) {
         Ok(uses) => push_of_paths(refused, &uses, earlier, text),
         Err(_) => text.fail(),
@@ -172,7 +181,7 @@ fn push_of_call(
         None => push_head(asked, outcome, later, None, text),
     }
     text.push_draft(refused.before);
-    push_tables(refused, &earlier, text);
+    push_tables(refused, later, &earlier, text);
     drop(earlier);
 }
 

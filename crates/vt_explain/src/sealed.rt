@@ -1,15 +1,16 @@
 //! Lines that ask whether tasks are sealed off, explained.
 use crate::causes::told_since;
-use crate::earlier::earlier_lines;
 use crate::head::Asked;
 use std::alloc::AllocError;
-use vt_causes::{Cause, why_unsealed};
+use vt_causes::Cause;
+use vt_holders::earlier_lines;
 use vt_line::line::Line;
 use vt_lines::reading::{free, reading};
 use vt_ns::World;
 use vt_request::Directive;
 use vt_sections::causes::Told;
 use vt_show::picture::Picture;
+use vt_unsealed::why_unsealed;
 
 // A cause as it is told, with the line since which it holds.
 fn told_of(asked: Asked<'_>, world: &World, cause: Cause<'_>) -> Result<Told, AllocError> {

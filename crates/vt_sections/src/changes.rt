@@ -1,12 +1,13 @@
 //! The mounts that come, go and change in a call.
 use crate::mounts::{find, has_namespace, parent};
 use crate::report::{Heads, Section};
-use std::alloc::Global;
+use serde_json::Value;
+use std::alloc::{AllocError, Global};
 use vt_check::check::Format;
 use vt_check::draft::Draft;
 use vt_location::MountId;
 use vt_request::CallKind;
-use vt_show::cells::{Cell, count_or_nothing};
+use vt_show::cells::{Cell, count_or_nothing, object_of};
 use vt_show::mounts::parts_of;
 use vt_show::names::{push_flags, push_mount, push_type};
 use vt_show::picture::{MountShown, Picture};
@@ -15,7 +16,7 @@ static HEADS: Heads = Heads {
     title: "MOUNTS THAT COME (+), GO (-) AND CHANGE (~)",
     kind: "change",
     words: &["", "MOUNT", "TARGET", "OPTIONS", "PROPAGATION", "WHY"],
-    members: &["group", "master", "target", "why"],
+    members: &["by", "group", "master", "reason", "target", "was", "why"],
 };
 
 /// The mounts before a call and after it, and the one that it is about: on which another is put, or which goes.
@@ -27,46 +28,93 @@ pub struct Sides<'a> {
     pub aim: Option<MountId>,
 }
 
-// Appends why a mount comes or goes that stands on another one: that comes or goes as well, is meant, or receives.
-fn push_why_by_parent(
-    text: &mut Draft,
-    parent: &MountShown,
+/// Why a mount comes or goes, or that it has changed.
+#[derive(Clone, Copy)]
+enum Why {
+    Unknown,
+    Asked,
+    /// The mount on which it stands comes or goes as well.
+    StandsOn,
+    /// The mount on which it stands receives the event.
+    Receives,
+    NamespaceBegins,
+    NamespaceEnds,
+    PointRemoved,
+    Changed,
+}
+
+impl Why {
+    // The word of it in JSON.
+    fn word(self) -> &'static str {
+        match self {
+            Why::Unknown => "",
+            Why::Asked => "asked",
+            Why::StandsOn => "stands_on",
+            Why::Receives => "receives",
+            Why::NamespaceBegins => "namespace_begins",
+            Why::NamespaceEnds => "namespace_ends",
+            Why::PointRemoved => "mount_point_removed",
+            Why::Changed => "changed",
+        }
+    }
+}
+
+// Why a mount is listed, and the mount that is named for that: on which it stands, or as it was.
+#[derive(Clone, Copy)]
+struct Reason<'a> {
+    why: Why,
+    other: Option<&'a MountShown>,
+}
+
+// A reason that names no other mount.
+fn alone<'a>(why: Why) -> Reason<'a> {
+    Reason { why, other: None }
+}
+
+// Why a mount comes or goes that stands on another one: that comes or goes as well, is meant, or receives.
+fn why_by_parent<'a>(
+    parent: &'a MountShown,
     other_side: &Picture,
-    as_well: &str,
     aim: Option<MountId>,
-) {
-    if find(other_side, parent.mount.number).is_none() {
-        text.push("stands on ");
-        push_mount(text, parent.place);
-        text.push(as_well);
+) -> Reason<'a> {
+    let why = if find(other_side, parent.mount.number).is_none() {
+        Why::StandsOn
     } else if Some(parent.mount.number) == aim {
-        text.push("asked for");
+        Why::Asked
     } else {
-        push_mount(text, parent.place);
-        text.push(" receives as ");
-        push_type(text, parent.kind);
+        Why::Receives
+    };
+    Reason {
+        why,
+        other: Some(parent),
     }
 }
 
-// Appends why a mount comes.
-fn push_why_it_comes(text: &mut Draft, sides: Sides<'_>, new: &MountShown) {
+// Why a mount comes.
+fn why_it_comes<'a>(sides: Sides<'a>, new: &MountShown) -> Reason<'a> {
     if !has_namespace(sides.before, new.mount.namespace) {
-        text.push("copied into the new namespace");
-    } else if let Some(parent) = parent(sides.after, new) {
-        push_why_by_parent(text, parent, sides.before, ", which comes", sides.aim);
+        return alone(Why::NamespaceBegins);
+    }
+    match parent(sides.after, new) {
+        Some(parent) => why_by_parent(parent, sides.before, sides.aim),
+        None => alone(Why::Unknown),
     }
 }
 
-// Appends why a mount goes.
-fn push_why_it_goes(text: &mut Draft, sides: Sides<'_>, old: &MountShown) {
+// Why a mount goes.
+fn why_it_goes<'a>(sides: Sides<'a>, old: &MountShown) -> Reason<'a> {
     if !has_namespace(sides.after, old.mount.namespace) {
-        text.push("its namespace ends");
-    } else if !matches!(sides.call, CallKind::Umount | CallKind::Lazy) {
-        text.push("its mount point is removed");
-    } else if Some(old.mount.number) == sides.aim {
-        text.push("asked for");
-    } else if let Some(parent) = parent(sides.before, old) {
-        push_why_by_parent(text, parent, sides.after, ", which goes", None);
+        return alone(Why::NamespaceEnds);
+    }
+    if !matches!(sides.call, CallKind::Umount | CallKind::Lazy) {
+        return alone(Why::PointRemoved);
+    }
+    if Some(old.mount.number) == sides.aim {
+        return alone(Why::Asked);
+    }
+    match parent(sides.before, old) {
+        Some(parent) => why_by_parent(parent, sides.after, None),
+        None => alone(Why::Unknown),
     }
 }
 
@@ -89,8 +137,92 @@ fn push_what_it_was(text: &mut Draft, old: &MountShown, new: &MountShown) {
     }
 }
 
+// Appends a reason that names another mount, in words.
+fn push_by(text: &mut Draft, why: Why, sign: &str, shown: &MountShown, other: &MountShown) {
+    match why {
+        Why::StandsOn => {
+            text.push("stands on ");
+            push_mount(text, other.place);
+            text.push(if sign == "+" {
+                ", which comes"
+            } else {
+                ", which goes"
+            });
+        }
+        Why::Receives => {
+            push_mount(text, other.place);
+            text.push(" receives as ");
+            push_type(text, other.kind);
+        }
+        Why::Changed => push_what_it_was(text, other, shown),
+        _ => text.push("asked for"),
+    }
+}
+
+// A reason in words.
+fn words_of(alloc: Global, sign: &str, shown: &MountShown, reason: Reason<'_>) -> Draft {
+    let mut text = Draft::new(alloc);
+    match (reason.why, reason.other) {
+        (why, Some(other)) => push_by(&mut text, why, sign, shown, other),
+        (Why::Asked, None) => text.push("asked for"),
+        (Why::NamespaceBegins, None) => text.push("copied into the new namespace"),
+        (Why::NamespaceEnds, None) => text.push("its namespace ends"),
+        (Why::PointRemoved, None) => text.push("its mount point is removed"),
+        _ => {}
+    }
+    text
+}
+
+// Puts a text, if there is one.
+fn put_word(section: &mut Section, member: &str, word: &str) {
+    if !word.is_empty() {
+        section.put_text(member, word);
+    }
+}
+
+// The mount point, the flags and the type of a mount as it was.
+fn old_value(alloc: Global, old: &MountShown) -> Result<Value, AllocError> {
+    let (word, group, master) = parts_of(old.kind);
+    let members = ["target", "options", "propagation", "group", "master"];
+    let cells = [
+        Cell::Root(&old.target),
+        Cell::Flags(old.mount.flags),
+        Cell::Text(word),
+        count_or_nothing(group),
+        count_or_nothing(master),
+    ];
+    object_of(alloc, &members, &cells).end()
+}
+
+// The name of a mount.
+fn name_value(alloc: Global, mount: &MountShown) -> Result<Value, AllocError> {
+    let mut name = Draft::new(alloc);
+    push_mount(&mut name, mount.place);
+    Ok(Value::String(name.end()?))
+}
+
+// Puts the parts of a reason: its word, the mount that is named for it, and what a mount was that has changed.
+fn put_reason(section: &mut Section, alloc: Global, reason: Reason<'_>) {
+    put_word(section, "reason", reason.why.word());
+    match (reason.why, reason.other) {
+        (Why::StandsOn | Why::Receives, Some(other)) if section.is_json() => {
+            section.put_value("by", name_value(alloc, other));
+        }
+        (Why::Changed, Some(old)) if section.is_json() => {
+            section.put_value("was", old_value(alloc, old));
+        }
+        _ => {}
+    }
+}
+
 // Adds a mount, and why it is listed, if there is a reason.
-fn add_mount(section: &mut Section, sign: &str, shown: &MountShown, why: &Draft) {
+fn add_mount(
+    section: &mut Section,
+    alloc: Global,
+    sign: &str,
+    shown: &MountShown,
+    reason: Reason<'_>,
+) {
     section.add_text("change", sign);
     section.add_mount("mount", shown.place);
     section.tell(&[Cell::Text(shown.path())]);
@@ -101,8 +233,10 @@ fn add_mount(section: &mut Section, sign: &str, shown: &MountShown, why: &Draft)
     section.put_text("propagation", word);
     section.put("group", &count_or_nothing(group));
     section.put("master", &count_or_nothing(master));
+    put_reason(section, alloc, reason);
+    let why = words_of(alloc, sign, shown, reason);
     if why.len() > 0 {
-        section.add("why", &Cell::whole(why));
+        section.add("why", &Cell::whole(&why));
     }
     section.end_row();
 }
@@ -111,31 +245,24 @@ fn add_mount(section: &mut Section, sign: &str, shown: &MountShown, why: &Draft)
 fn add_old(section: &mut Section, alloc: Global, sides: Sides<'_>) {
     for old in &sides.before.mounts {
         if find(sides.after, old.mount.number).is_none() {
-            let mut why = Draft::new(alloc);
-            push_why_it_goes(&mut why, sides, old);
-            add_mount(section, "-", old, &why);
+            add_mount(section, alloc, "-", old, why_it_goes(sides, old));
         }
     }
 }
 
 // Adds a mount, if it comes or has changed.
 fn add_new(section: &mut Section, alloc: Global, sides: Sides<'_>, new: &MountShown) {
-    let old = find(sides.before, new.mount.number);
-    if matches!(old, Some(old) if old.mount == new.mount) {
-        return;
-    }
-    let mut why = Draft::new(alloc);
-    let sign = match old {
+    match find(sides.before, new.mount.number) {
+        Some(old) if old.mount == new.mount => {}
         Some(old) => {
-            push_what_it_was(&mut why, old, new);
-            "~"
+            let reason = Reason {
+                why: Why::Changed,
+                other: Some(old),
+            };
+            add_mount(section, alloc, "~", new, reason);
         }
-        None => {
-            push_why_it_comes(&mut why, sides, new);
-            "+"
-        }
-    };
-    add_mount(section, sign, new, &why);
+        None => add_mount(section, alloc, "+", new, why_it_comes(sides, new)),
+    }
 }
 
 /// Appends the mounts that come, go and change.

@@ -1,7 +1,7 @@
 //! Causes of the rules on mounts.
-use crate::cause::Cause;
-use crate::events::is_shared;
 use crate::refusal::Refusal;
+use vt_causes::Cause;
+use vt_causes::events::is_shared;
 use vt_cred::Rights;
 use vt_location::{Location, MountId};
 use vt_looks::{Look, LookAtMounts};

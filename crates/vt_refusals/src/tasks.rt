@@ -1,6 +1,6 @@
 //! Causes of the rules on tasks: capabilities, descriptors, forks.
-use crate::cause::Cause;
 use crate::refusal::Refusal;
+use vt_causes::Cause;
 use vt_cred::{Caps, Flags};
 use vt_request::{Call, DescriptorCall, ForkWords, LookCall, TaskCall, WriteCall};
 use vt_rules::named;
@@ -40,7 +40,7 @@ impl<'a> Refusal<'a> {
         }
     }
 
-    /// S2: the task whose namespace is asked for.
+    /// S2: the task whose namespace was to be entered.
     pub(crate) fn of_namespace(&self) -> Option<Cause<'a>> {
         match self.call {
             Call::Task(TaskCall::Setns { task }) => Some(Cause {

@@ -1,9 +1,7 @@
 //! Why tasks are not sealed off from all others: the first condition that fails, and by whom.
-use crate::cause::{About, Cause};
-use crate::causes::no_task;
-use crate::events::{are_peers, is_grouped, receives};
-use crate::uses::{Held, Use, uses_in};
 use std::alloc::AllocError;
+use vt_causes::events::{are_peers, is_grouped, receives};
+use vt_causes::{About, Cause, Held, Use, no_task, uses_in};
 use vt_location::{FilesystemId, Location, Mount, NamespaceId, NodeRef};
 use vt_looks::Look;
 use vt_ns::World;
@@ -13,14 +11,14 @@ use vt_tasks::Task;
 static RECEIVES: &str =
     "mount {mount} receives from mount {other_mount}, which is shared in group {group}{since}";
 
-// What is told of a root, a working directory and an open file on a mount of theirs.
+// Words on a root, a working directory and an open file on a mount of theirs.
 static ON_THEIRS: [&str; 3] = [
     "the root of {task} is on a mount of theirs{since}: {at}",
     "the working directory of {task} is on a mount of theirs{since}: {at}",
     "descriptor {descriptor} of {task} is on a mount of theirs{since}: {at}",
 ];
 
-// What is told of a mount of others, and of their root, working directory and open file.
+// Words on a mount of others, and on their root, working directory and open file.
 struct Footholds {
     mount: &'static str,
     held: [&'static str; 3],
@@ -56,7 +54,7 @@ static NAMELESS: Footholds = Footholds {
     ],
 };
 
-// What is told of what a task has, among what is told of its root, its working directory and its open files.
+// Words on what a task has, among those on its root, its working directory and its open files.
 fn words_of(held: Held, words: &[&'static str]) -> &'static str {
     let index = match held {
         Held::Root => 0,

@@ -1,7 +1,7 @@
 //! Causes of the rules on the options and layers of an overlay.
-use crate::asked::overlay_options;
-use crate::cause::Cause;
 use crate::refusal::Refusal;
+use vt_causes::Cause;
+use vt_causes::asked::overlay_options;
 use vt_layers::{LayerOptions, MOST_LOWERS};
 use vt_location::Location;
 use vt_looks::Look;
@@ -40,6 +40,15 @@ fn overlaid(world: &World, layers: &[Location]) -> Option<Location> {
     None
 }
 
+// Words on an option that this version does not have.
+fn words_of_option(option: &[u8]) -> &'static str {
+    if option.starts_with(b"upperdir=") || option.starts_with(b"workdir=") {
+        "`{word}` is of an upper layer, which is not in this version"
+    } else {
+        "`{word}` is no option of an overlay"
+    }
+}
+
 impl<'a> Refusal<'a> {
     // Where the layers of these options lead, from the top; nothing where a walk is refused.
     fn layers(&self, options: &'a [u8]) -> Option<Vec<Location>> {
@@ -52,13 +61,13 @@ impl<'a> Refusal<'a> {
         Some(layers)
     }
 
-    // The option that is none of an overlay.
+    // The option that is none of an overlay, or of one with an upper layer.
     fn of_option(&self, options: &'a [u8]) -> Cause<'a> {
         for option in options.split(|byte| *byte == b',') {
             if LayerOptions::known(option).is_none() {
                 return Cause {
                     word: option,
-                    ..self.told("`{word}` is no option of an overlay")
+                    ..self.told(words_of_option(option))
                 };
             }
         }

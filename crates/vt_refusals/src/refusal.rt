@@ -1,6 +1,5 @@
 //! A call that a rule refuses, and the places at which the rule looks.
-use crate::cause::{About, Cause};
-use crate::walked::Walks;
+use vt_causes::{About, Cause, Walks};
 use vt_cred::{Flags, Rights};
 use vt_location::Location;
 use vt_looks::Look;
@@ -90,7 +89,7 @@ impl<'a> Refusal<'a> {
         }
     }
 
-    // All places at which the rule looks, in the order in which causes are told.
+    // All places at which the rule looks, in the order in which causes are named.
     fn places(&self) -> [Option<Location>; 5] {
         let [one, two, three] = self.targets();
         let first = self.walks.first_end();

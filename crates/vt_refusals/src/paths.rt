@@ -1,7 +1,7 @@
 //! Causes of the rules on the texts of paths, and on walks.
-use crate::asked::{PathAsked, first_path, second_path};
-use crate::cause::Cause;
 use crate::refusal::Refusal;
+use vt_causes::asked::{PathAsked, first_path, second_path};
+use vt_causes::{Cause, MOST_LINKS};
 use vt_location::Location;
 use vt_looks::Look;
 use vt_request::{Call, CallKind, MakeCall};
@@ -10,10 +10,7 @@ use vt_spec::errors::Rule;
 use vt_text::link;
 use vt_text::path::{LONGEST_NAME, LONGEST_PATH};
 
-/// The most symlinks of a path that are followed.
-pub const MOST_LINKS: usize = 40;
-
-// What is told of the text of a symlink and of paths that are empty.
+// Words on an empty text of a symlink, and on empty paths.
 static EMPTY: [&str; 3] = [
     "the text of the symlink is empty",
     "the first path is empty",
@@ -121,7 +118,7 @@ impl<'a> Refusal<'a> {
         self.of_place(words)
     }
 
-    // W8: what is told of such a directory.
+    // W8: words on such a directory.
     fn of_directory(&self, at: Location) -> Cause<'a> {
         if !self.world.is_removed(at) {
             let words = "the directory has left the tree that mount {mount} shows";

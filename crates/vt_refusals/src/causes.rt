@@ -1,17 +1,7 @@
 //! The cause of each rule.
-use crate::cause::{About, Cause};
 use crate::refusal::Refusal;
-use vt_request::TaskName;
+use vt_causes::Cause;
 use vt_spec::errors::Rule;
-
-/// That there is no task of a name: S2.
-pub fn no_task<'a>(name: &'a TaskName) -> Cause<'a> {
-    Cause::new(
-        About::Rule(Rule::S2),
-        "there is no task {task}{since}",
-        name,
-    )
-}
 
 /// Why a rule refuses a call; nothing where memory is short, and of S1, whose lines are no calls.
 pub fn cause_of<'a>(refusal: &Refusal<'a>) -> Option<Cause<'a>> {

@@ -1,6 +1,6 @@
 //! Causes of the rules on names and objects.
-use crate::cause::Cause;
 use crate::refusal::Refusal;
+use vt_causes::Cause;
 use vt_cred::{Caps, may_delete_sticky};
 use vt_location::{Location, MountId};
 use vt_looks::Look;
