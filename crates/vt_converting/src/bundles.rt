@@ -2,8 +2,7 @@
 ghost use Rattle.std.specs.Prelude.{◌≡◌, false, IfErr};
 ghost use Rattle.vt_run.specs.Status.{comes_before_output};
 
-use crate::conversion::{Conversion, hand_on_script};
-use crate::telling::tell_counts;
+use crate::conversion::{Conversion, hand_on_written};
 use std::io::Write;
 use std::rt::Files;
 use vt_bundles::{BundleFault, script_of};
@@ -26,24 +25,7 @@ fn written_of<R: Eprint + AllocGlobal>(rt: &R, name: &str, text: &str) -> Result
     }
 }
 
-// Hands on a script, and tells what is not modelled.
-fn finish<R: Files + Eprint + AllocGlobal, W: Write>(
-    rt: &R,
-    asked: Conversion<'_, '_>,
-    lines: u64,
-    written: &Written,
-    output: &mut W,
-) -> Result<(), Fault>
-    ensures { IfErr result (λ fault. comes_before_output fault ≡ false) }
-{
-    hand_on_script(rt, asked, written.text.as_str(), output)?;
-    match tell_counts(rt, rt.alloc(), asked.file, lines, written.counts.as_slice()) {
-        Ok(()) => Ok(()),
-        Err(_) => Err(Fault::Run(RunFault::Memory)),
-    }
-}
-
-// Hands on the script of the content of a file, and tells what is not modelled.
+// Writes the script of the content of a file, and reports what is not modelled.
 fn convert_content<R: Files + Eprint + AllocGlobal, W: Write>(
     rt: &R,
     asked: Conversion<'_, '_>,
@@ -57,7 +39,7 @@ fn convert_content<R: Files + Eprint + AllocGlobal, W: Write>(
     };
     let lines = text.lines().count() as u64;
     match written_of(rt, asked.file, text) {
-        Ok(written) => finish(rt, asked, lines, &written, output),
+        Ok(written) => hand_on_written(rt, asked, lines, &written, output),
         Err(fault) => Err(fault),
     }
 }

@@ -2,12 +2,14 @@
 ghost use Rattle.std.specs.Prelude.{◌≡◌, false, IfErr};
 ghost use Rattle.vt_run.specs.Status.{comes_before_output};
 
-use crate::{bundles, tables};
+use crate::telling::tell_counts;
+use crate::{bundles, tables, traces};
 use std::io::Write;
 use std::rt::Files;
 use vt_files::{hand_on, put, refuse_text};
+use vt_from::script::Written;
 use vt_run::fault::Fault;
-use vt_script::Calls;
+use vt_script::{Calls, RunFault};
 
 /// What a file holds.
 #[derive(Clone, Copy)]
@@ -16,6 +18,8 @@ pub enum Kind {
     Mountinfo { checks: bool },
     /// The `config.json` of a bundle of the OCI runtime specification.
     Oci,
+    /// What `strace -f` writes. What the calls find may be made first.
+    Strace { files: bool },
 }
 
 /// What is converted, and what becomes of the script.
@@ -29,7 +33,7 @@ pub struct Conversion<'a, 'm> {
     pub script: Option<&'a str>,
 }
 
-/// Hands on a script: to its file, or else to the output.
+/// Writes a script to its file, or else to the output.
 pub fn hand_on_script<R: Files + Eprint + AllocGlobal, W: Write>(
     rt: &R,
     asked: Conversion<'_, '_>,
@@ -50,9 +54,27 @@ pub fn hand_on_script<R: Files + Eprint + AllocGlobal, W: Write>(
     }
 }
 
-/// Turns what a file holds into a script. What of it is not modelled is told on the error output.
+/// Writes a script to its file, or else to the output, and reports what of so many lines is not modelled.
+pub fn hand_on_written<R: Files + Eprint + AllocGlobal, W: Write>(
+    rt: &R,
+    asked: Conversion<'_, '_>,
+    lines: u64,
+    written: &Written,
+    output: &mut W,
+) -> Result<(), Fault>
+    ensures { IfErr result (λ fault. comes_before_output fault ≡ false) }
+{
+    hand_on_script(rt, asked, written.text.as_str(), output)?;
+    match tell_counts(rt, rt.alloc(), asked.file, lines, written.counts.as_slice()) {
+        Ok(()) => Ok(()),
+        Err(_) => Err(Fault::Run(RunFault::Memory)),
+    }
+}
+
+/// Turns what a file holds into a script. What of it is not modelled is reported on the error output.
 ///
-/// `Found`: it cannot be read, or a line of it has no known form, or the answers of the script are not those of the tables.
+/// `Found`: it cannot be read, or a line of it has no known form, or the answers of the script are not those of the
+/// tables.
 pub fn convert<C: Calls, R: Files + Input + Eprint + AllocGlobal, W: Write>(
     rt: &R,
     asked: Conversion<'_, '_>,
@@ -63,5 +85,6 @@ pub fn convert<C: Calls, R: Files + Input + Eprint + AllocGlobal, W: Write>(
     match asked.kind {
         Kind::Mountinfo { checks } => tables::convert::<C, _, _>(rt, asked, checks, output),
         Kind::Oci => bundles::convert(rt, asked, output),
+        Kind::Strace { files } => traces::convert(rt, asked, files, output),
     }
 }

@@ -6,5 +6,6 @@ mod conversion;
 mod reading;
 mod tables;
 mod telling;
+mod traces;
 
 pub use conversion::{Conversion, Kind, convert};

@@ -78,7 +78,7 @@ fn check<C: Calls, W: Write>(
     }
 }
 
-// Hands on the script, or what its answers differ in, and tells what is not modelled.
+// Writes the script, or how its answers differ, and reports what is not modelled.
 fn finish<C: Calls, R: Files + Eprint + AllocGlobal, W: Write>(
     rt: &R,
     asked: Conversion<'_, '_>,

@@ -1,4 +1,4 @@
-//! What is told of a conversion on the error output.
+//! What a conversion reports on the error output.
 use std::alloc::{AllocError, Global};
 use vt_check::draft::Draft;
 use vt_files::told;
@@ -32,7 +32,7 @@ fn counted(alloc: Global, counts: &[Count]) -> Result<String, AllocError> {
     text.end()
 }
 
-/// Says how many lines came, and how many parts of them are not modelled, by kind.
+/// Says how many lines were read, and how many parts of them are not modelled, by kind.
 pub fn tell_counts<R: Eprint>(
     rt: &R,
     alloc: Global,

@@ -1,5 +1,5 @@
-//! The files of a command: read whole, told of on the error output, and written; and what a script's first line says of its
-//! language.
+//! The files of a command: they are read whole, named on the error output, and written. And the version of the
+//! language that a script's first line names.
 #![tactic(auto)]
 
 mod reading;
@@ -8,6 +8,6 @@ mod version;
 mod writing;
 
 pub use reading::{readable, told};
-pub use telling::{refuse, refuse_text};
+pub use telling::{count_refused, refuse, refuse_text};
 pub use version::spoken;
 pub use writing::{hand_on, hand_on_text, put, replace};

@@ -5,7 +5,7 @@ use std::rt::Files;
 
 const INPUT: &str = "standard input";
 
-/// The name of a file as it is told.
+/// The name of a file as it is shown.
 pub fn told(name: &str) -> &str {
     if name == "-" { INPUT } else { name }
 }
@@ -20,7 +20,7 @@ fn content<R: Files + Input + AllocGlobal>(rt: &R, name: &str) -> io::Result<Vec
     Ok(bytes)
 }
 
-/// The content of a file, or nothing where it cannot be read, which is said on the error output.
+/// The content of a file, or `None` if it cannot be read; the error output says why.
 pub fn readable<R: Files + Input + Eprint + AllocGlobal>(rt: &R, name: &str) -> Option<Vec<u8>> {
     match content(rt, name) {
         Ok(bytes) => Some(bytes),

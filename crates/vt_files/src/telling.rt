@@ -1,4 +1,4 @@
-//! What keeps a command from its work is said on the error output.
+//! Messages on the error output, of what keeps a command from its work.
 ghost use Rattle.std.specs.Prelude.{◌≡◌, false};
 ghost use Rattle.vt_run.specs.Status.{comes_before_output};
 
@@ -22,5 +22,15 @@ pub fn refuse_text<R: Eprint>(rt: &R, name: &str, why: Result<String, AllocError
     match why {
         Ok(why) => refuse(rt, name, why.as_str()),
         Err(error) => out_of_memory(error),
+    }
+}
+
+/// Says on the error output how many lines of a script were refused by S1, if some were.
+pub fn count_refused<R: Eprint>(rt: &R, name: &str, refused: u64) {
+    if refused > 0 {
+        let name = told(name);
+        let _ = eprintln!(rt;
+            "vtree: {name}: lines answered by S1, which change nothing: {refused}; `vtree check` tells why"
+        );
     }
 }

@@ -3,8 +3,8 @@ use crate::reading::told;
 use vt_script::Version;
 use vt_wanted::header::{version_of_file, wrong_version};
 
-/// The version of a file's language: the one that is asked for, else the one that its first line names, else 1. Nothing
-/// where none is asked for and that line names one that does not exist, which is said on the error output.
+/// The version of a file's language: the one that an option gives, else the one that its first line names, else 1.
+/// `None`: no option gives one, and that line names one that does not exist; the error output says so.
 pub fn spoken<R: Eprint>(
     rt: &R,
     name: &str,
