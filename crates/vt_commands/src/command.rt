@@ -4,23 +4,25 @@ ghost use Rattle.vt_run.specs.Status.{IsOfWords};
 
 use crate::explaining::LineAsked;
 use crate::line::command_line;
-use crate::showing::WorldAsked;
-use crate::tools::{Job, Work};
 use crate::turning::OrdersAsked;
 use clap::error::ErrorKind;
 use clap::{ArgMatches, Error};
 use std::alloc::{AllocError, Global};
 use std::rt::Env;
 use std::{env, io};
+use vt_answering::{Form, ScriptAsked};
 use vt_check::check;
 use vt_check::draft::Draft;
 use vt_check::report::MOST_SHOWN;
 use vt_converting::{Conversion, Kind};
 use vt_orders::report;
+use vt_playing::ScheduleAsked;
 use vt_run::fault::Fault;
 use vt_script::{RunFault, Version};
 use vt_show::show;
+use vt_showing::WorldAsked;
 use vt_test::test;
+use vt_working::{Job, Work};
 
 const NO_LINE: &str = "`--at` takes the number of a line, from 1";
 
@@ -32,9 +34,17 @@ const NO_MOST: &str = "`--most` takes a number of orders";
 
 const NO_MOST_SHOWN: &str = "`--most` takes a number of findings, or `all`";
 
+const NO_SCHEDULE: &str = "`turns` takes a schedule, or `--all`";
+
+const ALL_OR_SCHEDULE: &str = "`turns` takes a schedule or `--all`, and not both";
+
+const OF_ALL: &str = "`--unborn`, `--most` and `--format json` are of `--all` alone";
+
 const NO_TASK: &str = "`--task` takes NAME=FILE, the table of mounts of a further task";
 
 const OF_TABLES: &str = "`--task` and `--check` are of `mountinfo` alone";
+
+const OF_TRACES: &str = "`--files` is of `strace` alone";
 
 // The most orders of a script that are tried, where no other number is asked for.
 const MOST_ORDERS: u64 = 100_000;
@@ -60,7 +70,7 @@ enum CommandName {
 #[derive(Clone, Copy)]
 pub enum Order<'a, 'm> {
     /// The script in this file is answered.
-    Run(Version, &'a str),
+    Run(ScriptAsked<'a>),
     /// Something is done with each of these files.
     Work(&'m [&'a str], Work),
     /// A world of this file is shown.
@@ -69,6 +79,8 @@ pub enum Order<'a, 'm> {
     Explain(&'a str, LineAsked),
     /// Every order of the lines of this file's scripts is tried.
     Turns(&'a str, OrdersAsked),
+    /// This file's script is answered in the order of a schedule.
+    Play(&'a str, ScheduleAsked<'a>),
     /// What a file of a system holds becomes a script.
     From(Conversion<'a, 'm>),
     /// The example of this name is written, or all are listed.
@@ -197,6 +209,19 @@ fn most_shown(word: Option<&str>) -> Option<usize> {
     }
 }
 
+// What `vtree run` is asked for.
+fn run_order<'a, 'm>(given: &ArgMatches<'a>) -> Order<'a, 'm> {
+    let form = match given.get_str("format") {
+        Some("jsonl") => Form::Objects,
+        _ => Form::Text,
+    };
+    Order::Run(ScriptAsked {
+        version: version_asked(given).unwrap_or(Version::One),
+        file: file_of(given),
+        form,
+    })
+}
+
 // What `vtree check` is asked for.
 fn check_order<'a, 'm>(alloc: Global, given: &'m ArgMatches<'a>) -> Result<Order<'a, 'm>, Fault>
     ensures { IfErr result IsOfWords }
@@ -283,6 +308,37 @@ fn show_order<'a, 'm>(alloc: Global, given: &ArgMatches<'a>) -> Result<Order<'a,
 fn turns_order<'a, 'm>(alloc: Global, given: &ArgMatches<'a>) -> Result<Order<'a, 'm>, Fault>
     ensures { IfErr result IsOfWords }
 {
+    match (given.get_flag("all"), given.get_str("SCHEDULE")) {
+        (true, None) => orders_order(alloc, given),
+        (false, Some(schedule)) => schedule_order(alloc, given, schedule),
+        (true, Some(_)) => Err(refusal(alloc, ALL_OR_SCHEDULE)),
+        (false, None) => Err(refusal(alloc, NO_SCHEDULE)),
+    }
+}
+
+// What `vtree turns` is asked for with a schedule.
+fn schedule_order<'a, 'm>(
+    alloc: Global,
+    given: &ArgMatches<'a>,
+    schedule: &'a str,
+) -> Result<Order<'a, 'm>, Fault>
+    ensures { IfErr result IsOfWords }
+{
+    let is_json = given.get_str("format") == Some("json");
+    if is_json || given.get_flag("unborn") || given.get_str("most").is_some() {
+        return Err(refusal(alloc, OF_ALL));
+    }
+    let asked = ScheduleAsked {
+        version: version_asked(given),
+        schedule,
+    };
+    Ok(Order::Play(file_of(given), asked))
+}
+
+// What `vtree turns --all` is asked for.
+fn orders_order<'a, 'm>(alloc: Global, given: &ArgMatches<'a>) -> Result<Order<'a, 'm>, Fault>
+    ensures { IfErr result IsOfWords }
+{
     let most = match given.get_str("most") {
         Some(word) => word.parse::<u64>().ok(),
         None => Some(MOST_ORDERS),
@@ -322,11 +378,17 @@ fn from_order<'a, 'm>(alloc: Global, given: &'m ArgMatches<'a>) -> Result<Order<
     let checks = given.get_flag("check");
     let kind = match given.get_str("KIND") {
         Some("oci") => Kind::Oci,
+        Some("strace") => Kind::Strace {
+            files: given.get_flag("files"),
+        },
         _ => Kind::Mountinfo { checks },
     };
     let is_of_tables = matches!(kind, Kind::Mountinfo { .. });
     if !is_of_tables && (checks || !tasks.is_empty()) {
         return Err(refusal(alloc, OF_TABLES));
+    }
+    if !matches!(kind, Kind::Strace { .. }) && given.get_flag("files") {
+        return Err(refusal(alloc, OF_TRACES));
     }
     Ok(Order::From(Conversion {
         kind,
@@ -380,10 +442,7 @@ pub fn order_of<'a, 'm>(alloc: Global, matches: &'m ArgMatches<'a>) -> Result<Or
         return Err(Fault::Words(String::new(alloc)));
     };
     match command_named(name) {
-        Some(CommandName::Run) => {
-            let version = version_asked(given).unwrap_or(Version::One);
-            Ok(Order::Run(version, file_of(given)))
-        }
+        Some(CommandName::Run) => Ok(run_order(given)),
         Some(CommandName::Check) => check_order(alloc, given),
         Some(CommandName::Test) => test_order(alloc, given),
         Some(CommandName::Show) => show_order(alloc, given),

@@ -4,21 +4,14 @@
 
 mod command;
 mod cookbook;
-mod ended;
 mod explaining;
-mod folders;
 mod line;
-mod noting;
 mod order;
 mod rules;
-mod showing;
-mod tools;
 mod turning;
 
 pub use command::words;
 pub use explaining::{Explainer, LineAsked};
-pub use noting::{ScriptRead, note_second};
 pub use order::obey;
-pub use showing::{count_refused, script_at, scripts_in};
 pub use vt_run::fault::{Fault, status};
 pub use vt_run::running::Pace;

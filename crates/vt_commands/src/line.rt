@@ -22,8 +22,6 @@ enum Form {
     LetterWord(char, &'static str),
     /// `--write`
     Flag,
-    /// `--all`, which may not be left out.
-    RequiredFlag,
     /// `--at LINE`
     Word(&'static str),
     /// `--task NAME=FILE`, any number of times.
@@ -94,7 +92,15 @@ static COMMANDS: [Taking; 9] = [
     Taking {
         name: "run",
         about: "Answers each line of a script",
-        arguments: &[RUN_SCRIPT, FILE],
+        arguments: &[
+            RUN_SCRIPT,
+            Argument {
+                name: "format",
+                form: Form::OneOf("FORM", &["text", "jsonl"]),
+                help: "The form of the answers; jsonl is an object for each line that is answered",
+            },
+            FILE,
+        ],
     },
     Taking {
         name: "check",
@@ -182,12 +188,12 @@ static COMMANDS: [Taking; 9] = [
     },
     Taking {
         name: "turns",
-        about: "Tries the orders of lines in which tasks may run, and tells which answers differ",
+        about: "Answers a script in the order of a schedule, or tries every order of its lines",
         arguments: &[
             Argument {
                 name: "all",
-                form: Form::RequiredFlag,
-                help: "Every order that keeps the order of each task's lines",
+                form: Form::Flag,
+                help: "Tries every order that keeps the order of each task's lines, and tells which answers differ",
             },
             Argument {
                 name: "unborn",
@@ -202,11 +208,16 @@ static COMMANDS: [Taking; 9] = [
             SCRIPT,
             TEXT_OR_JSON,
             FILE,
+            Argument {
+                name: "SCHEDULE",
+                form: Form::Optional,
+                help: "The order of turns, a task or ! a line; left out with --all",
+            },
         ],
     },
     Taking {
         name: "from",
-        about: "Makes a script of a table of mounts, or of a container's configuration",
+        about: "Makes a script of a table of mounts, a container's configuration, or a trace of calls",
         arguments: &[
             Argument {
                 name: "task",
@@ -224,14 +235,19 @@ static COMMANDS: [Taking; 9] = [
                 help: "Of mountinfo: runs the script, and tells what its mounts differ in from the tables",
             },
             Argument {
+                name: "files",
+                form: Form::Flag,
+                help: "Of strace: makes first the files and directories that the calls find",
+            },
+            Argument {
                 name: "KIND",
-                form: Form::Choice(&["mountinfo", "oci"]),
-                help: "What FILE holds: /proc/PID/mountinfo, or the config.json of an OCI bundle",
+                form: Form::Choice(&["mountinfo", "oci", "strace"]),
+                help: "What FILE holds: /proc/PID/mountinfo, the config.json of an OCI bundle, or what strace -f writes",
             },
             Argument {
                 name: "FILE",
                 form: Form::Required,
-                help: "The table or configuration; - is standard input",
+                help: "The table, configuration or trace; - is standard input",
             },
         ],
     },
@@ -277,10 +293,6 @@ fn argument_of<'a>(alloc: Global, argument: &Argument) -> Arg<'a> {
             .action(ArgAction::SetTrue),
         Form::LetterWord(letter, word) => named(alloc, argument).short(letter).value_name(word),
         Form::Flag => named(alloc, argument).long(name).action(ArgAction::SetTrue),
-        Form::RequiredFlag => named(alloc, argument)
-            .long(name)
-            .action(ArgAction::SetTrue)
-            .required(true),
         Form::Word(word) => named(alloc, argument).long(name).value_name(word),
         Form::Words(word) => named(alloc, argument)
             .long(name)

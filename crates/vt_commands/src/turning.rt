@@ -2,7 +2,6 @@
 ghost use Rattle.std.specs.Prelude.{◌≡◌, false, true, IfErr};
 ghost use Rattle.vt_run.specs.Status.{comes_before_output};
 
-use crate::showing::{count_refused, scripts_in};
 use std::alloc::{AllocError, Global};
 use std::io::Write;
 use std::rt::Files;
@@ -10,13 +9,14 @@ use vt_calls::Kernel;
 use vt_check::check::Format;
 use vt_check::draft::Draft;
 use vt_check::object::HEAD;
-use vt_files::{hand_on, readable, spoken, told};
+use vt_files::{count_refused, hand_on, readable, spoken, told};
 use vt_orders::queues::Queues;
 use vt_orders::report::{Asked, Options, Report, excess, orders_told};
 use vt_orders::schedule::Turns;
 use vt_request::{Call, TaskName};
 use vt_run::fault::{Fault, out_of_memory};
 use vt_script::{RunFault, Version};
+use vt_showing::scripts_in;
 use vt_test::suite::Script;
 use vt_test::text::push_name;
 use vt_turns_taken::turns_of;

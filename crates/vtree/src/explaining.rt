@@ -8,13 +8,12 @@ use std::rt::Files;
 use vt_calls::{Calls, Kernel};
 use vt_check::check::Format;
 use vt_check::object::HEAD;
-use vt_commands::{
-    Explainer, Fault, LineAsked, ScriptRead, count_refused, note_second, script_at, scripts_in,
-};
+use vt_commands::{Explainer, Fault, LineAsked};
 use vt_explain::{Numbered, explain, is_spoken, line_at, nearest_call};
-use vt_files::{hand_on, hand_on_text, readable, refuse_text, spoken};
+use vt_files::{count_refused, hand_on, hand_on_text, readable, refuse_text, spoken};
 use vt_lines::reached::reached_before;
 use vt_run::fault::out_of_memory;
+use vt_showing::{ScriptRead, note_second, script_at, scripts_in};
 
 // Why a line is not explained, and the nearest call.
 fn no_call(alloc: Global, line: u64, nearest: Option<u64>) -> Result<String, AllocError> {
