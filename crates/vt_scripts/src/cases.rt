@@ -5,13 +5,19 @@
 use anyhow::{Result, bail};
 use std::alloc::{AllocError, Global};
 use std::fs;
+use std::io::Write;
 use std::rt::Files;
 use vt_calls::{Calls, Kernel};
 use vt_check::check::{Options as CheckOptions, check as check_script};
 use vt_explain::{Format as ExplainFormat, Numbered, explain, line_at};
 use vt_lines::reached::reached_before;
-use vt_script::Version;
+use vt_script::{Version, WriteSink, write_reply};
 use vt_show::show::{Options as ShowOptions, show as show_world};
+use vt_turns_dated::TurnKernel;
+use vt_turns_run::play_script;
+
+// What stands between a script and its schedule.
+const SCHEDULE: &str = "-- turns\n";
 
 /// What writes the text of a script, and how.
 #[derive(Clone, Copy)]
@@ -23,6 +29,9 @@ pub enum Tool {
     Explain(Version, ExplainFormat),
     /// The same, but the cause alone is compared.
     Cause(Version),
+    /// A script in this version of its language is answered in turns. A line `-- turns`, and then the schedule, stand behind
+    /// it.
+    Turns(Version),
 }
 
 impl Tool {
@@ -42,6 +51,7 @@ impl Tool {
                 }
             }
             Tool::Explain(version, format) => return explained(version, alloc, script, format),
+            Tool::Turns(version) => return played(version, alloc, script),
             Tool::Cause(version) => {
                 let told = explained(version, alloc, script, ExplainFormat::Text)?;
                 let told = str::from_utf8(told.as_slice()).unwrap_or_default();
@@ -80,6 +90,32 @@ fn explained(
     let outcome = explain(version, alloc, &mut reached.world, numbered, format);
     reached.world.end();
     Ok(outcome?.into_bytes())
+}
+
+// What a script replies in the order of a schedule, and then which lines of the schedule did nothing, and which of the
+// script were not reached.
+fn played(version: Version, alloc: Global, script: &[u8]) -> Result<Vec<u8>> {
+    let text = str::from_utf8(script).unwrap_or_default();
+    let Some((script, schedule)) = text.split_once(SCHEDULE) else {
+        bail!("no schedule stands behind the script");
+    };
+    let outcome = play_script::<TurnKernel>(version, alloc, script.as_bytes(), schedule.as_bytes());
+    let Ok(played) = outcome else {
+        bail!("an allocation failed");
+    };
+    let mut text = Vec::new(alloc);
+    for reply in &played.replies {
+        let mut sink = WriteSink::new(&mut text);
+        write_reply(&mut sink, reply.line, &reply.answer)?;
+    }
+    if let Some(first) = played.first_idle {
+        let idle = played.idle;
+        write!(text, "idle: {idle}, the first is {first}\n")?;
+    }
+    for line in &played.left {
+        write!(text, "left: {line}\n")?;
+    }
+    Ok(text)
 }
 
 // A script, and the text that is wanted.

@@ -122,6 +122,8 @@ pub fn check_all<R: Runtime + AllocGlobal>(rt: &R) -> Result<()> {
         ),
         (CAUSES[0], Tool::Cause(Version::One)),
         (CAUSES[1], Tool::Cause(Version::Two)),
+        ("tools/turns", Tool::Turns(Version::One)),
+        ("tools/turns-2", Tool::Turns(Version::Two)),
     ];
     for (folder, tool) in tools {
         check_folder(rt, folder, tool)?;

@@ -31,7 +31,7 @@ fn owned(alloc: Global, words: &[&str]) -> Result<Vec<String>, AllocError> {
 }
 
 // Words that are faults, the status of each, and its text.
-const FAULTS: [(&[&str], u8, &str); 14] = [
+const FAULTS: [(&[&str], u8, &str); 16] = [
     (
         &["vtree", "chek", "a"],
         2,
@@ -60,7 +60,17 @@ const FAULTS: [(&[&str], u8, &str); 14] = [
     (
         &["vtree", "turns", "a"],
         2,
-        "the following required arguments were not provided: --all; `vtree --help` says what it takes",
+        "`turns` takes a schedule, or `--all`; `vtree --help` says what it takes",
+    ),
+    (
+        &["vtree", "turns", "--all", "a", "b"],
+        2,
+        "`turns` takes a schedule or `--all`, and not both; `vtree --help` says what it takes",
+    ),
+    (
+        &["vtree", "turns", "--most", "5", "a", "b"],
+        2,
+        "`--unborn`, `--most` and `--format json` are of `--all` alone; `vtree --help` says what it takes",
     ),
     (
         &["vtree", "turns", "--all", "--most", "few", "a"],
