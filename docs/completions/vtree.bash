@@ -3,6 +3,7 @@ _vtree() {
     local word=${COMP_WORDS[COMP_CWORD]} before=${COMP_WORDS[COMP_CWORD - 1]} words=
     case ${COMP_WORDS[1]}:$before in
         run:--script) COMPREPLY=($(compgen -W '1 2' -- "$word")); return ;;
+        run:--format) COMPREPLY=($(compgen -W 'text jsonl' -- "$word")); return ;;
         check:--most) COMPREPLY=($(compgen -W '' -- "$word")); return ;;
         check:--script) COMPREPLY=($(compgen -W '1 2' -- "$word")); return ;;
         check:--format) COMPREPLY=($(compgen -W 'text json' -- "$word")); return ;;
@@ -25,13 +26,13 @@ _vtree() {
         return
     fi
     case ${COMP_WORDS[1]}:$word in
-        run:-*) words='--script --help' ;;
+        run:-*) words='--script --format --help' ;;
         check:-*) words='-W --most --script --format --help' ;;
         test:-*) words='--write -v --script --format --help' ;;
         show:-*) words='--at --task --files --script --format --help' ;;
         explain:-*) words='--script --format --help' ;;
         turns:-*) words='--all --unborn --most --script --format --help' ;;
-        from:-*) words='--task -o --check --help' ;;
+        from:-*) words='--task -o --check --files --help' ;;
         rules:-*) words='--markdown --help' ;;
         new:-*) words='--help' ;;
         rules:*) words=$(vtree rules 2>/dev/null | cut -d' ' -f1) ;;

@@ -1,6 +1,7 @@
 # Completions of vtree for fish. This file is written by `checks/completions --write`.
 complete -c vtree -n __fish_use_subcommand -f -a run -d 'Answers each line of a script'
 complete -c vtree -n '__fish_seen_subcommand_from run' -l script -d 'The version of the scripts\' language; 2 has pivot_root and nosymfollow too' -x -a '1 2'
+complete -c vtree -n '__fish_seen_subcommand_from run' -l format -d 'The form of the answers; jsonl is an object for each line that is answered' -x -a 'text jsonl'
 complete -c vtree -n '__fish_seen_subcommand_from run' -l help -d 'Print help'
 complete -c vtree -n __fish_use_subcommand -f -a check -d 'Tells what is wrong with the lines of scripts, and runs nothing'
 complete -c vtree -n '__fish_seen_subcommand_from check' -o W -d 'Warnings are errors'
@@ -25,17 +26,18 @@ complete -c vtree -n __fish_use_subcommand -f -a explain -d 'Explains why a line
 complete -c vtree -n '__fish_seen_subcommand_from explain' -l script -d 'The version of the scripts\' language; else that of a first line `#!.. --script 2`, or 1' -x -a '1 2'
 complete -c vtree -n '__fish_seen_subcommand_from explain' -l format -d 'The form of what is written; json is one object a line' -x -a 'text json'
 complete -c vtree -n '__fish_seen_subcommand_from explain' -l help -d 'Print help'
-complete -c vtree -n __fish_use_subcommand -f -a turns -d 'Tries the orders of lines in which tasks may run, and tells which answers differ'
-complete -c vtree -n '__fish_seen_subcommand_from turns' -l all -d 'Every order that keeps the order of each task\'s lines'
+complete -c vtree -n __fish_use_subcommand -f -a turns -d 'Answers a script in the order of a schedule, or tries every order of its lines'
+complete -c vtree -n '__fish_seen_subcommand_from turns' -l all -d 'Tries every order that keeps the order of each task\'s lines, and tells which answers differ'
 complete -c vtree -n '__fish_seen_subcommand_from turns' -l unborn -d 'Orders too in which a line comes before its task is born'
 complete -c vtree -n '__fish_seen_subcommand_from turns' -l most -d 'The most orders that are tried; 100000 where it is left out' -x
 complete -c vtree -n '__fish_seen_subcommand_from turns' -l script -d 'The version of the scripts\' language; else that of a first line `#!.. --script 2`, or 1' -x -a '1 2'
 complete -c vtree -n '__fish_seen_subcommand_from turns' -l format -d 'The form of what is written; json is one object a line' -x -a 'text json'
 complete -c vtree -n '__fish_seen_subcommand_from turns' -l help -d 'Print help'
-complete -c vtree -n __fish_use_subcommand -f -a from -d 'Makes a script of a table of mounts, or of a container\'s configuration'
+complete -c vtree -n __fish_use_subcommand -f -a from -d 'Makes a script of a table of mounts, a container\'s configuration, or a trace of calls'
 complete -c vtree -n '__fish_seen_subcommand_from from' -l task -d 'Of mountinfo: the table of a further task; any number of times' -x
 complete -c vtree -n '__fish_seen_subcommand_from from' -o o -d 'The file that becomes the script; the standard output where it is left out' -x
 complete -c vtree -n '__fish_seen_subcommand_from from' -l check -d 'Of mountinfo: runs the script, and tells what its mounts differ in from the tables'
+complete -c vtree -n '__fish_seen_subcommand_from from' -l files -d 'Of strace: makes first the files and directories that the calls find'
 complete -c vtree -n '__fish_seen_subcommand_from from' -l help -d 'Print help'
 complete -c vtree -n __fish_use_subcommand -f -a rules -d 'Tells of the rules that refuse calls'
 complete -c vtree -n '__fish_seen_subcommand_from rules' -l markdown -d 'All rules as a page of the documentation'
