@@ -19,7 +19,7 @@ use Rattle.vt_overlay.specs.MergedTree.{longest, plain_world}
 use Rattle.vt_overlay.proofs.TreeFound as plain
 use Rattle.vt_upper_overlay.specs.Lent.{ObjectsAreAlikeAbove, lent_by_path, node_kept, real_lent}
 use Rattle.vt_upper_overlay.specs.MergedAbove.{held, lent, merged_above, object_kept, object_lent, object_shown, path_at, real_number, upper_seen}
-use Rattle.vt_upper_overlay.specs.Standing.{IsKeptWell, StandsAbove, is_there}
+use Rattle.vt_upper_overlay.specs.Standing.{IsKeptWell, is_there}
 use Rattle.vt_upper_overlay.specs.UpperValue.{UpperOverlayValue, real_at}
 use Rattle.vt_upper_overlay.proofs.Objects.{alike_there, found_among, front_as, front_seen, none_among, path_number, real_shown_at}
 use Rattle.vt_upper_overlay.proofs.Shown.{IsLooked, all_layers, layers_are, looked_by}

@@ -1,6 +1,6 @@
 -- The directories that have names for a file, among those that its tree lists.
-use Rattle.std.proofs.Common.{Bool, List, None, Option, Some, ap, eqb-true, false, is_some, length, nat_eq, option_map, refl, slice_index_or, sym, suc, true, true≢false, ℕ, ◌<◌, ◌&&◌, ◌||◌, ◌∙◌, ◌∷◌, ◌≡◌, [], unwrap_or, arith, flat_map}
-use Rattle.vt_spec.proofs.Common.{Node, Tree, among_numbers, any_among, entries_in, entries_of, found_passes, has_entry_to, is_among, list_any, none_among, none_is_some, same_Some, targets_in, common_steps}
+use Rattle.std.proofs.Common.{Bool, List, None, Option, Some, ap, eqb-true, false, is_some, length, nat_eq, option_map, refl, slice_index_or, sym, suc, true, true≢false, ℕ, ◌<◌, ◌&&◌, ◌||◌, ◌∙◌, ◌∷◌, ◌≡◌, [], unwrap_or, arith}
+use Rattle.vt_spec.proofs.Common.{Node, among_numbers, any_among, entries_in, entries_of, found_passes, has_entry_to, is_among, list_any, none_among, none_is_some, same_Some, targets_in, common_steps}
 use Rattle.vt_fs.specs.FilesystemsValue.{FilesystemEntry, Filesystems, entry_of, files_at, files_seen, no_entry, node_seen}
 use Rattle.vt_fs.proofs.Numbers.{numbers_listed}
 use Rattle.vt_location.proofs.NumberLemmas.{exchanged_back, exchanged_slot}

@@ -1,6 +1,6 @@
 -- Which nodes are there: each look asks where a node has its object, and whether the layers show that.
-use Rattle.std.proofs.Common.{◌≡◌, ◌≢◌, ◌∙◌, ◌<◌, ◌+◌, ◌^◌, ◌∷◌, ◌++◌, ◌&&◌, [], ap, arith, Bool, eq-eqb, false, is_some, List, nat_eq, nat_lt, None, not, option_map, Option, refl, Some, subst, suc, sym, true, true≢false, unwrap_or, ⊎_elim, ℕ, slice_get, if◌then◌else◌, lt-ltb, ltb-true}
-use Rattle.vt_spec.proofs.Common.{Among, IsDirectory, Node, OpenLayer, Shown, Tree, and_true_left, and_true_right, any_among, at_path, directory_no_whiteout, directory_used, entry_at, entry_from, entry_to, has_entry_to, is_directory_node, node_in, is_kind_in, is_root_path, led, led-append, list_any, node_shown, none_is_some, or_right, same_Some, shown, slice_get_within, then_some, when, without_last, common_steps}
+use Rattle.std.proofs.Common.{◌≡◌, ◌≢◌, ◌∙◌, ◌<◌, ◌+◌, ◌^◌, ◌∷◌, ◌++◌, ◌&&◌, [], ap, arith, Bool, eq-eqb, false, is_some, List, nat_eq, nat_lt, None, not, option_map, Option, refl, Some, subst, suc, sym, true, true≢false, unwrap_or, ℕ, slice_get, if◌then◌else◌, lt-ltb, ltb-true}
+use Rattle.vt_spec.proofs.Common.{IsDirectory, Node, OpenLayer, Tree, and_true_left, and_true_right, any_among, at_path, directory_no_whiteout, directory_used, entry_from, entry_to, has_entry_to, is_directory_node, node_in, is_kind_in, is_root_path, led, led-append, list_any, none_is_some, same_Some, shown, slice_get_within, then_some, when, without_last}
 use Rattle.vt_spec.specs.declared.attributes.Kind.TheVariants.{White}
 use Rattle.vt_spec.proofs.Layers.{cuts, shown_from, shown_over}
 use Rattle.vt_laws_trees.proofs.layers.layers.ShownDirectories.{led_is_there}
@@ -14,14 +14,14 @@ use Rattle.vt_location.specs.Locations.{inode_of, number_of}
 use Rattle.vt_location.specs.NodeNumbers.{IsSmall}
 use Rattle.vt_location.specs.Numbers.{exchanged, inode_number, is_inode_of}
 use Rattle.vt_location.proofs.NumberLemmas.{exchanged_number, exchanged_same, slot_of}
-use Rattle.vt_births.specs.Births.{node_above, node_of, slot_above, slot_by}
+use Rattle.vt_births.specs.Births.{node_above, node_of, slot_above}
 use Rattle.vt_births.proofs.NodesAbove.{born_here, slots_found}
 use Rattle.vt_fs.specs.FilesystemsValue.{Filesystems, files_at, node_seen}
 use Rattle.vt_overlay.specs.Merge.LayerValue.{layer_of, layers_of}
 use Rattle.vt_overlay.specs.declared.merge.layers.LayerRef.{LayerRef}
 use Rattle.vt_overlay.specs.MergedTree as through
 use Rattle.vt_overlay.specs.MergedTree.{IsLayer, longest, plain_world}
-use Rattle.vt_overlay.proofs.BirthsFound.{has_last, in_slot}
+use Rattle.vt_overlay.proofs.BirthsFound.{has_last}
 use Rattle.vt_overlay.proofs.RootFound.{no_name}
 use Rattle.vt_overlay.proofs.TreeFound as plain
 use Rattle.vt_upper_overlay.specs.Lent.{is_shown_name}
@@ -29,7 +29,7 @@ use Rattle.vt_upper_overlay.specs.MergedAbove.{directory_path, held, number_at, 
 use Rattle.vt_upper_overlay.specs.Standing.{StandsAbove}
 use Rattle.vt_upper_overlay.specs.UpperValue.{UpperOverlayValue, below_upper, node_for}
 use Rattle.vt_upper_overlay.proofs.Named.{inode_at, is_naming, is_way, lifted_number, way_number}
-use Rattle.vt_upper_overlay.proofs.Shown.{IsAbove, IsBelow, IsLooked, birth_below, converted, layers_are, lifted, no_slot_below, number_above, shown_node, slot_is_above, small_shown}
+use Rattle.vt_upper_overlay.proofs.Shown.{IsAbove, IsBelow, IsLooked, birth_below, converted, layers_are, lifted, number_above, small_shown}
 use Rattle.vt_upper_overlay.proofs.Through.{is_same, object_is, only_above, only_below, slot_is}
 use Rattle.vt_upper_overlay.proofs.Ways as ways
 

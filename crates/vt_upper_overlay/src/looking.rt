@@ -68,7 +68,7 @@ impl UpperOverlay {
     pub fn entry<'a>(&self, trees: &'a Filesystems, node: NodeRef, name: &[u8]) -> Option<Entry<'a>>
         requires standing { StandsAbove trees.now self.now }
         requires own { node.filesystem ≡ self.now.layers.number }
-        requires there { is_there trees.now self.now node ≡ true }
+        requires there { IsSome (real_lent trees.now self.now (number_of node)) }
         ensures node { option_map (λ entry. number_of entry.node) result
             ≡ entry_named name.now (entries_in ((merged_above trees.now self.now).node (number_of node))) }
         ensures object { IfSome result (λ entry.
@@ -91,7 +91,7 @@ impl UpperOverlay {
     fn is_shown_directory(&self, trees: &Filesystems, node: NodeRef) -> bool
         requires standing { StandsAbove trees.now self.now }
         requires own { node.filesystem ≡ self.now.layers.number }
-        requires there { is_there trees.now self.now node ≡ true }
+        requires there { IsSome (real_lent trees.now self.now (number_of node)) }
         ensures { result ≡ is_some (directory_path trees.now self.now (number_of node)) }
     {
         if self.is_kept(node) {

@@ -3,9 +3,17 @@ use Rattle.vt_location.specs.Locations.{number_of}
 use Rattle.vt_location.proofs.NodeLemmas.{small_parts}
 use Rattle.vt_upper_overlay.specs.MergedAbove.{merged_above}
 use Rattle.vt_upper_overlay.proofs.Entries.{kind_of_way}
+use Rattle.vt_upper_overlay.proofs.LentAbove.{there_lent}
 use Rattle.vt_upper_overlay.proofs.Objects.{kept_no_way, same_kind}
 use Rattle.vt_upper_overlay.proofs.Shown.{looked_by}
 use Rattle.vt_upper_overlay.proofs.overlay.UpperOverlay.is_shown_directory.Goals as goal
+
+pub inode-requires-clause-there : goal.inode-requires-clause-there
+inode-requires-clause-there c =
+    let small = c.is_kept.ensures.small in
+    there_lent c.args.trees.now c.args.self.now
+    (looked_by c.args.trees.now c.args.self.now c.args.node c.requires.standing small c.requires.own) c.args.node
+    (small_parts c.args.node small) c.requires.there
 
 pub returns-then-is_kept : goal.returns-then-is_kept
 returns-then-is_kept c =
@@ -27,4 +35,6 @@ returns c =
     ∙ same_kind (option_copied c.inode.result) ((merged_above trees overlay).node (number_of c.args.node))
     c.inode.ensures.alike
     ∙ kind_of_way trees overlay (looked_by trees overlay c.args.node c.requires.standing small c.requires.own) c.args.node
-    (small_parts c.args.node small) (sym c.is_kept.ensures.value ∙ unkept) c.requires.there
+    (small_parts c.args.node small) (sym c.is_kept.ensures.value ∙ unkept)
+    (there_lent trees overlay (looked_by trees overlay c.args.node c.requires.standing small c.requires.own) c.args.node
+    (small_parts c.args.node small) c.requires.there)

@@ -1,4 +1,4 @@
-use Rattle.std.proofs.Common.{arith, sym, ◌<◌, ◌≡◌, ◌∙◌}
+use Rattle.std.proofs.Common.{arith, sym, ◌<◌, ◌∙◌}
 use Rattle.vt_location.proofs.NodeLemmas.{small_parts}
 use Rattle.vt_upper_overlay.proofs.Shown.{looked_by}
 use Rattle.vt_upper_overlay.proofs.ThereAbove.{others_slot}

@@ -1,0 +1,4 @@
+pub mod ObjectsLayered
+pub mod Parts
+pub mod Staying
+pub mod StayingKinds

@@ -1,0 +1,3 @@
+pub mod LayeredValue
+pub mod LayeredTree
+pub mod Staying
