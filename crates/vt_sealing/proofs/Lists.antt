@@ -1,7 +1,10 @@
 -- Tests of all elements of a list that pass another test.
-use Rattle.std.proofs.Common.{◌≡◌, ℕ, Bool, true, false, not, cond, ◌&&◌, ◌||◌, List, [], ◌∷◌, ◌++◌, map, filter, flat_map, nat_eq, eqb-true, Option, None, Some, refl, sym, ap, ◌∙◌, IsPermutation}
+use Rattle.std.proofs.Common.{◌≡◌, ℕ, Bool, true, false, not, cond, ◌&&◌, ◌||◌, List, [], ◌∷◌, ◌++◌, map, filter, flat_map, nat_eq, eqb-true, Option, None, Some, option_map, refl, sym, ap, ◌∙◌, IsPermutation}
 use Rattle.vt_spec.proofs.Common.{Task, each_once, holds_of, list_all, list_all-append, list_any, list_any-IsPermutation, list_any-append}
 use Rattle.vt_location.proofs.AskedLemmas.{any_mapped, any_same}
+use Rattle.vt_overlay.specs.MergedTree.{OverlayValue}
+use Rattle.vt_layered.specs.LayeredValue.{LayeredValue}
+use Rattle.vt_store.specs.OverlaysValue.{OverlayEntry, Overlays, entry_kept, layered_of, overlay_of}
 use Rattle.vt_tasks.specs.declared.task.Task.{Task as Held}
 use Rattle.vt_tasks.specs.TaskValue.{task_of}
 
@@ -104,3 +107,15 @@ pub holds_both : {A : Type 0} (p : A → Bool) (b : Bool) (o : Option A)
     → (holds_of p o && b) ≡ holds_of (λ a. p a && b) o
 holds_both p b None = refl
 holds_both p b (Some a) = refl
+
+-- an overlay that is found has all its layers
+pub overlay_found : (all : Overlays) (count : ℕ) (found : Option LayeredValue) → found ≡ layered_of all count
+    → option_map (λ (one : LayeredValue). one.overlay) found ≡ overlay_of all count
+overlay_found all count found is = ap (option_map (λ (one : LayeredValue). one.overlay)) is ∙ by (entry_kept all count)
+  where
+    by : (kept : Option OverlayEntry)
+        → option_map (λ (one : LayeredValue). one.overlay)
+        (option_map (λ (entry : OverlayEntry). record { overlay = entry.overlay; above = entry.above }) kept)
+        ≡ option_map (λ (entry : OverlayEntry). entry.overlay) kept
+    by None = refl
+    by (Some entry) = refl

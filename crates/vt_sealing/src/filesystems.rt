@@ -138,7 +138,7 @@ impl Sealing<'_> {
     {
         match self.store.overlay(id) {
             Some(overlay) => overlay
-                .lowers()
+                .layers()
                 .iter()
                 .any(|layer| is_in(layer.directory, filesystem)),
             None => false,
@@ -267,7 +267,7 @@ impl Sealing<'_> {
     {
         match self.store.overlay(id) {
             Some(overlay) => overlay
-                .lowers()
+                .layers()
                 .iter()
                 .any(|layer| is_at_root(layer.directory, root)),
             None => false,

@@ -8,7 +8,7 @@ use Rattle.vt_fs.specs.Trees.TreeValue.{TreeValue, inodes_of, tree_of}
 use Rattle.vt_fs.proofs.Numbers.{numbers_listed}
 use Rattle.vt_location.proofs.NumberLemmas.{counted_inode, exchanged_back, exchanged_slot}
 use Rattle.vt_location.specs.Numbers.{counted, exchanged, inode_number}
-use Rattle.vt_store.proofs.NamesFound.{nodes_found}
+use Rattle.vt_upper_overlay.proofs.NamesFound.{nodes_found}
 use Rattle.vt_store.specs.Naming.{lacks_no_name}
 
 listed : (plain : Filesystems) (count number : ℕ)

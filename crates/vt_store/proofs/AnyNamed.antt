@@ -5,10 +5,10 @@ use Rattle.vt_fs.specs.FilesystemsValue.{Filesystems, files_at}
 use Rattle.vt_location.specs.Locations.{inode_of}
 use Rattle.vt_overlay.specs.declared.merge.layers.LayerRef.{LayerRef}
 use Rattle.vt_store.specs.Locks.{directory_lies_in, directory_lies_in_overlay, lies_in_overlay, names_in_layer, overlay_stands_in}
-use Rattle.vt_store.specs.OverlaysValue.{OverlayEntry}
+use Rattle.vt_store.specs.OverlaysValue.{OverlayEntry, layers_held}
 
 -- a test that passes for no more elements than another
-any-fewer : {X : Type 0} (p q : X → Bool) → ((x : X) → p x ≡ false → q x ≡ false) → (xs : List X)
+pub any-fewer : {X : Type 0} (p q : X → Bool) → ((x : X) → p x ≡ false → q x ≡ false) → (xs : List X)
     → list_any p xs ≡ false → list_any q xs ≡ false
 any-fewer p q less [] none = refl
 any-fewer p q less (x ∷ xs) none = ap (λ b. b || list_any q xs) (less x (or_false_left (p x) (list_any p xs) none))
@@ -56,13 +56,13 @@ module _ (plain : Filesystems) (count file : ℕ) where
       && is_file_under nat_eq (files_at plain count) (inode_of layer.directory) file
 
   pub named_in_one : (overlays : List OverlayEntry)
-      → list_any (λ (entry : OverlayEntry). list_any file_lies_in entry.overlay.lowers) overlays
+      → list_any (λ (entry : OverlayEntry). list_any file_lies_in (layers_held entry)) overlays
       ≡ list_any (names_in_layer plain overlays count file) (files_at plain count).numbers
   named_in_one overlays = (λ i. list_any (λ (entry : OverlayEntry). list_any (λ (layer : LayerRef).
       any-and names_it (nat_eq count layer.directory.filesystem.count)
       (is_directory_under nat_eq (files_at plain count) (inode_of layer.directory))
-      (files_at plain count).numbers i) entry.overlay.lowers) overlays) ∙ (λ i. list_any (λ (entry : OverlayEntry).
-      any-swapped names_it (λ layer directory. directory_lies_in plain count directory layer) entry.overlay.lowers
+      (files_at plain count).numbers i) (layers_held entry)) overlays) ∙ (λ i. list_any (λ (entry : OverlayEntry).
+      any-swapped names_it (λ layer directory. directory_lies_in plain count directory layer) (layers_held entry)
       (files_at plain count).numbers i) overlays)
       ∙ any-swapped names_it (λ entry directory. directory_lies_in_overlay plain count directory entry) overlays
       (files_at plain count).numbers

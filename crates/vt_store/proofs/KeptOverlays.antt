@@ -5,8 +5,9 @@ use Rattle.indexmap.specs.IndexMap.{IndexMap, WritesThrough, get_by}
 use Rattle.vt_location.specs.declared.numbers.FilesystemId.{FilesystemId}
 use Rattle.vt_location.specs.InOrder.{cmp_by, in_order_by}
 use Rattle.vt_location.proofs.OrderLemmas.{IsChanged, change_kept, changed-by, in_order-changed, in_order-last, in_order-removed, is_above, looked-in_order}
+use Rattle.vt_layered.specs.LayeredValue.{LayeredValue}
 use Rattle.vt_store.specs.declared.overlays.KeptOverlay.{KeptOverlay}
-use Rattle.vt_store.specs.OverlaysValue.{AreOwn, OverlayEntry, Overlays, entries_kept, entry_kept, kept_overlay, kept_overlays, overlay_of, with_overlay_changed, without_overlay}
+use Rattle.vt_store.specs.OverlaysValue.{AreOwn, OverlayEntry, Overlays, entries_kept, entry_kept, kept_overlay, kept_overlays, layered_of, with_overlay_changed, without_overlay}
 
 -- the equality of numbers as the map compares them, and the test by which it finds one
 abbrev pub key_eq : FilesystemId → FilesystemId → Bool
@@ -30,7 +31,12 @@ in_order es = in_order_by count_of es
 
 -- an entry of this count
 abbrev pub of_count : ℕ → KeptOverlay → OverlayEntry
-of_count f one = record { count = f; overlay = one.overlay; mounts = one.mounts }
+of_count f one = record {
+  count = f;
+  overlay = one.overlay.overlay;
+  above = one.overlay.above;
+  mounts = one.mounts;
+}
 
 same : (a b : ℕ) → nat_eq a b ≡ true → b ≡ a
 same a b e = sym (eqb-true a b e)
@@ -110,10 +116,20 @@ module _ (f : ℕ) where
   removed es new goes = cc (in_order-removed count_of whole (id_of f) es new goes, entries-without (in_order es))
 
 -- what the map has under a count is the overlay of that count
-pub overlay_of-kept : (f : ℕ) (es : List (FilesystemId × KeptOverlay)) (all : Overlays) (o : Option KeptOverlay)
+pub layered_of-kept : (f : ℕ) (es : List (FilesystemId × KeptOverlay)) (all : Overlays) (o : Option KeptOverlay)
     → kept_overlays es ≡ all → o ≡ lookup (is_key f) es
-    → option_map (λ (one : KeptOverlay). one.overlay) o ≡ overlay_of all f
-overlay_of-kept f es all o view is = grind (arith, common_steps, entry_kept-kept)
+    → option_map (λ (one : KeptOverlay). one.overlay) o ≡ layered_of all f
+layered_of-kept f es all o view is = by o
+    ∙ ap (option_map layered) (ap (option_map (of_count f)) is ∙ sym (entry_kept-kept f es))
+    ∙ ap (λ overlays. layered_of overlays f) view
+  where
+    layered : OverlayEntry → LayeredValue
+    layered entry = record { overlay = entry.overlay; above = entry.above }
+
+    by : (o : Option KeptOverlay)
+        → option_map (λ (one : KeptOverlay). one.overlay) o ≡ option_map layered (option_map (of_count f) o)
+    by None = refl
+    by (Some one) = refl
 
 -- and so many mounts show it
 pub mounts-kept : (f : ℕ) (es : List (FilesystemId × KeptOverlay)) (all : Overlays) (o : Option KeptOverlay)
@@ -165,12 +181,12 @@ added es new all k x view above comes = ap entries_kept (in_order-last count_of 
 -- Each under its own number
 
 pub is_own : (id : FilesystemId) (kept : List (FilesystemId × KeptOverlay)) → AreOwn kept
-    → (one : KeptOverlay) → Some one ≡ lookup (is_key id.count) kept → one.overlay.number ≡ id
+    → (one : KeptOverlay) → Some one ≡ lookup (is_key id.count) kept → one.overlay.overlay.number ≡ id
 is_own id kept own one e = own id one (sym e)
 
 -- still where one is put in under its own,
 pub own_added : (es new : List (FilesystemId × KeptOverlay)) (k : FilesystemId) (x : KeptOverlay) → AreOwn es
-    → x.overlay.number ≡ k
+    → x.overlay.overlay.number ≡ k
     → ((q : FilesystemId) → lookup (key_eq q) new ≡ cond (key_eq k q) (Some x) (lookup (key_eq q) es)) → AreOwn new
 own_added es new k x own its comes id one e = grind (arith, common_steps)
 
@@ -187,7 +203,7 @@ own_written f m n x w own there is through id one e =
     by (nat_eq f id.count) (eqb-true f id.count) (sym ((through.3 (ap is_some there)).0 id) ∙ e)
   where
     by : (b : Bool) → (b ≡ true → f ≡ id.count)
-        → cond b (Some w) (lookup (key_eq id) m.entries) ≡ Some one → one.overlay.number ≡ id
+        → cond b (Some w) (lookup (key_eq id) m.entries) ≡ Some one → one.overlay.overlay.number ≡ id
     by true here written = cc (is, own (id_of f) x there, whole (id_of f) id (here refl))
     by false here written = own id one written
 

@@ -1,14 +1,18 @@
 -- Overlays that stand on layers.
-use Rattle.std.proofs.Common.{◌≡◌, ◌<◌, ◌∙◌, ◌∷◌, [], arith, ap, Bool, eqb-true, false, find, length, List, map, nat_eq, None, not, Option, refl, Some, subst, suc, sym, true, true≢false, unwrap_or, zero, ℕ, All, is_some, nat_le, slice_get, leb-true}
-use Rattle.vt_spec.proofs.Common.{Among, Filesystem, Inode, IsDirectory, IsTree, IsWorld, Layer, Tree, World, all_from_among, among_from_all, among_from_list_all, and_parts, filesystem_numbered, found_among, found_passes, is_directory_node, is_empty_list, is_overlay, is_plain_layer, layers_of, list_all, most_lowers, no_filesystem, node_in, none_is_some, of_overlay, common_steps}
+use Rattle.std.proofs.Common.{◌&&◌, ◌≡◌, ◌<◌, ◌∙◌, ◌∷◌, [], arith, ap, Bool, eqb-true, false, find, length, List, map, nat_eq, None, not, Option, refl, Some, subst, suc, sym, true, true≢false, unwrap_or, zero, ℕ, All, is_some, nat_le, slice_get, leb-true}
+use Rattle.vt_spec.proofs.Common.{Among, Filesystem, Inode, IsDirectory, IsTree, IsWorld, Layer, Tree, World, all_from_among, among_from_all, among_from_list_all, and_parts, filesystem_numbered, found_among, found_passes, has_fit_layers, is_directory_node, is_empty_list, is_overlay, is_plain_layer, layers_of, list_all, most_lowers, no_filesystem, node_in, none_is_some, of_overlay, common_steps}
 use Rattle.vt_location.specs.Locations.{inode_of}
 use Rattle.vt_location.specs.Numbers.{counted, is_inode_of}
 use Rattle.vt_fs.specs.FilesystemsValue.{FilesystemEntry, Filesystems, entry_of, inodes_at, inodes_seen, no_entry}
 use Rattle.vt_overlay.specs.declared.merge.layers.LayerRef.{LayerRef}
-use Rattle.vt_overlay.specs.MergedTree.{AreLayers, IsLayer, OverlayValue, layer_seen}
-use Rattle.vt_store.specs.Laws.{HasOwnNumbers, IsSameTree, OverlaysStandStill, WorldsStandOnLayers}
+use Rattle.vt_overlay.specs.MergedTree.{AreLayers, IsLayer, layer_seen}
+use Rattle.vt_layered.specs.LayeredTree.{KeepsRight, StandsLayered, layered_seen}
+use Rattle.vt_layered.specs.LayeredValue.{Above, LayeredValue}
+use Rattle.vt_layered.specs.Staying.{StaysAsLayer}
+use Rattle.vt_layered.proofs.StayingKinds.{layered_stand_still}
+use Rattle.vt_store.specs.Laws.{HasOwnNumbers, IsSameTree, KeepRight, OverlaysStandStill, StaysBy, WorldsStandOnLayers}
 use Rattle.vt_store.specs.OverlaysValue.{OverlayEntry}
-use Rattle.vt_store.specs.StoreValue.{StandsOnLayers, StoreValue, filesystem_found, filesystem_in, filesystems_of, overlay_filesystem, overlay_in}
+use Rattle.vt_store.specs.StoreValue.{StandsOnLayers, StoreValue, filesystem_found, filesystem_in, filesystems_of, layered_in, layers_and_objects, overlay_filesystem}
 use Rattle.vt_store.proofs.Woven.{among-woven, is_plain}
 use Rattle.vt_store.proofs.Woven.{is_overlay_in}
 use Rattle.vt_laws_trees.proofs.overlays.seen.Paths.{all_at}
@@ -28,13 +32,20 @@ still_layer old new layer same is = record {
 }
 
 pub overlays_stand_still : OverlaysStandStill
-overlays_stand_still old new entry stands same = record {
-  layers = λ place layer at.
-      still_layer old new layer (all_at (IsSameTree old new) entry.overlay.lowers same place layer at)
-      (stands.layers place layer at);
-  some = stands.some;
-  few = stands.few;
-}
+overlays_stand_still old new entry stands same = by entry.above stands.right same
+  where
+    layers : (above : Option Above) → All (StaysBy old new above) entry.overlay.lowers
+        → AreLayers new entry.overlay.lowers
+    layers None same place layer at = still_layer old new layer
+        (all_at (IsSameTree old new) entry.overlay.lowers same place layer at) (stands.layers place layer at)
+    layers (Some above) same place layer at = still_layer old new layer
+        (all_at (StaysAsLayer old new) entry.overlay.lowers same place layer at).tree (stands.layers place layer at)
+
+    by : (above : Option Above) → KeepsRight old entry.overlay above → All (StaysBy old new above) entry.overlay.lowers
+        → StandsLayered new entry.overlay above
+    by None right same = record { layers = layers None same; some = stands.some; few = stands.few; right = tt }
+    by (Some above) right same = layered_stand_still old new entry.overlay (Some above)
+        (record { layers = stands.layers; some = stands.some; few = stands.few; right = right }) same
 
 -- Worlds
 
@@ -55,7 +66,7 @@ length-layers [] = refl
 length-layers (layer ∷ layers) = ap suc (length-layers layers)
 
 module _ (store : StoreValue) (world : World ℕ) (whole : IsWorld nat_eq world)
-    (is : world.filesystems ≡ filesystems_of store) (own : All HasOwnNumbers store.plain) where
+    (is : world.filesystems ≡ filesystems_of store) (own : All HasOwnNumbers store.plain) (right : KeepRight store) where
   found_so : (count : ℕ) → find (λ (one : Filesystem ℕ). nat_eq (counted count) one.number) world.filesystems
       ≡ filesystem_found store count
   found_so count = ap (find (λ (one : Filesystem ℕ). nat_eq (counted count) one.number)) is
@@ -82,7 +93,7 @@ module _ (store : StoreValue) (world : World ℕ) (whole : IsWorld nat_eq world)
       let parts = and_parts (not (is_overlay (filesystem_numbered nat_eq world (counted count))))
       (is_directory_node ((filesystem_numbered nat_eq world (counted count)).files.tree.node
       (inode_of layer.directory))) stands in
-      let none = no_overlay (overlay_in store count) refl
+      let none = no_overlay (layered_in store count) refl
       (ap (λ (one : Filesystem ℕ). not (is_overlay one)) (sym (numbered_so count)) ∙ parts.0) in
       let seen = numbered_so count ∙ is_plain store count none in
       let directory = ap (λ (one : Filesystem ℕ). is_directory_node (one.files.tree.node (inode_of layer.directory)))
@@ -94,9 +105,9 @@ module _ (store : StoreValue) (world : World ℕ) (whole : IsWorld nat_eq world)
         own_numbers = own_at count;
       }
     where
-      no_overlay : (o : Option OverlayValue) → overlay_in store layer.directory.filesystem.count ≡ o
+      no_overlay : (o : Option LayeredValue) → layered_in store layer.directory.filesystem.count ≡ o
           → not (is_overlay (filesystem_in store layer.directory.filesystem.count)) ≡ true
-          → overlay_in store layer.directory.filesystem.count ≡ None
+          → layered_in store layer.directory.filesystem.count ≡ None
       no_overlay o s e = grind (arith, common_steps, is_overlay_in, is_some)
 
       tree_of_found : (count : ℕ) (o : Option (Filesystem ℕ))
@@ -115,25 +126,45 @@ module _ (store : StoreValue) (world : World ℕ) (whole : IsWorld nat_eq world)
     abbrev lowers : List (Layer ℕ)
     lowers = map layer_seen entry.overlay.lowers
 
-    layers_stand : AreLayers store.plain entry.overlay.lowers
-    layers_stand place layer at = layer_stands layer (each_seen (is_plain_layer nat_eq world) entry.overlay.lowers
-        (among_from_list_all
+    -- all layers, as the definitions see them, are among those of the overlay
+    all_fit : list_all (is_plain_layer nat_eq world) (layers_of (layers_and_objects store.plain entry)) ≡ true
+    all_fit = among_from_list_all
         (of_overlay true (λ one. list_all (is_plain_layer nat_eq world) (layers_of one))) world.filesystems
-        whole.overlays.plain_layers (overlay_filesystem store.plain entry) among) place layer at)
+        whole.overlays.plain_layers (overlay_filesystem store.plain entry) among
 
-    fits : (not (is_empty_list lowers) ≡ true) × (nat_le (length lowers) most_lowers ≡ true)
-    fits = grind (arith, common_steps, among_from_list_all, among)
+    has_fit : has_fit_layers (layers_and_objects store.plain entry) ≡ true
+    has_fit = among_from_list_all (of_overlay true has_fit_layers) world.filesystems whole.overlays.fit_layers
+        (overlay_filesystem store.plain entry) among
 
     stands : StandsOnLayers store.plain entry
-    stands =
-        let same = length-layers entry.overlay.lowers in
-        let most = leb-true (length lowers) most_lowers fits.1 in
-        let least = not_empty lowers fits.0 in record {
-          layers = layers_stand;
-          some = omega (arith, least, same);
-          few = omega (arith, most, same);
-        }
+    stands = by entry.above refl (among_from_all (λ (one : OverlayEntry). KeepsRight store.plain one.overlay one.above)
+        store.overlays right entry there)
+      where
+        by : (above : Option Above) → entry.above ≡ above → KeepsRight store.plain entry.overlay entry.above
+            → StandsOnLayers store.plain entry
+        by None e keeps =
+            let plain_ones = ap (λ above. list_all (is_plain_layer nat_eq world)
+            (layers_of (layered_seen entry.overlay above))) (sym e) ∙ all_fit in
+            let fit = ap (λ above. has_fit_layers (layered_seen entry.overlay above)) (sym e) ∙ has_fit in
+            let parts = and_parts (not (is_empty_list lowers)) (nat_le (length lowers) most_lowers)
+            (and_parts (not (is_empty_list lowers) && nat_le (length lowers) most_lowers) _ fit).0 in
+            let same = length-layers entry.overlay.lowers in
+            let most = leb-true (length lowers) most_lowers parts.1 in
+            let least = not_empty lowers parts.0 in record {
+              layers = λ place layer at. layer_stands layer (each_seen (is_plain_layer nat_eq world)
+                  entry.overlay.lowers plain_ones place layer at);
+              some = omega (arith, least, same);
+              few = omega (arith, most, same);
+              right = keeps;
+            }
+        by (Some above) e keeps =
+            let upper = subst (KeepsRight store.plain entry.overlay) e keeps in record {
+              layers = upper.layers;
+              some = upper.upper;
+              few = upper.few;
+              right = keeps;
+            }
 
 pub worlds_stand_on_layers : WorldsStandOnLayers
-worlds_stand_on_layers store world whole is own =
-    all_from_among (StandsOnLayers store.plain) store.overlays (stands store world whole is own)
+worlds_stand_on_layers store world whole is own right =
+    all_from_among (StandsOnLayers store.plain) store.overlays (stands store world whole is own right)

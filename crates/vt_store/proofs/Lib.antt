@@ -9,8 +9,6 @@ pub mod OverlaysAlike
 pub mod OverlaysGo
 pub mod Woven
 pub mod WovenLast
-pub mod Ranked
-pub mod Locked
 pub mod LayersTallied
 pub mod LayersAbove
 pub mod LayersKept
@@ -20,3 +18,5 @@ pub mod NamesFound
 pub mod NumbersOwned
 pub mod NamedEach
 pub mod AllNamed
+pub mod LayersWithWork
+pub mod KeptObjects

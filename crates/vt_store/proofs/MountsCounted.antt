@@ -4,8 +4,9 @@ use Rattle.vt_spec.proofs.Common.{All-cons, All-head, All-tail, common_steps}
 use Rattle.vt_laws_trees.specs.Overlays.InOrder.{put_in}
 use Rattle.vt_fs.specs.FilesystemsValue.{FilesystemEntry, Filesystems, entry_of, files_at, files_seen, filesystem_seen, filesystems_seen, no_entry, with_changed}
 use Rattle.vt_overlay.specs.declared.merge.layers.LayerRef.{LayerRef}
+use Rattle.vt_layered.specs.LayeredValue.{Above}
 use Rattle.vt_store.specs.Counts.{with_mounts_by}
-use Rattle.vt_store.specs.Laws.{IsSameLayer, MountsAreNotSeen, MountsLeaveLayers}
+use Rattle.vt_store.specs.Laws.{IsSameLayer, MountsAreNotSeen, MountsLeaveLayers, StaysBy}
 use Rattle.vt_store.specs.OverlaysValue.{OverlayEntry, Overlays, with_overlay_changed}
 use Rattle.vt_store.specs.StoreValue.{StandOnLayers, StandsOnLayers, entry_in, filesystems_of, overlay_filesystem, woven}
 use Rattle.vt_store.proofs.LayersStanding.{overlays_stand_still}
@@ -74,8 +75,11 @@ module _ (count : ℕ) (change : ℕ → ℕ) where
   -- overlays stand on their layers
   stands_plain : (plain : Filesystems) (entry : OverlayEntry) → StandsOnLayers plain entry
       → StandsOnLayers (more plain) entry
-  stands_plain plain entry stands = overlays_stand_still plain (more plain) entry stands
-      (λ place default within. (same_layer plain (get_or entry.overlay.lowers place default)).tree)
+  stands_plain plain entry stands = overlays_stand_still plain (more plain) entry stands (stay entry.above)
+    where
+      stay : (above : Option Above) → All (StaysBy plain (more plain) above) entry.overlay.lowers
+      stay None = λ place default within. (same_layer plain (get_or entry.overlay.lowers place default)).tree
+      stay (Some above) = λ place default within. same_layer plain (get_or entry.overlay.lowers place default)
 
   stand_plain : (plain : Filesystems) (overlays : Overlays) → All (StandsOnLayers plain) overlays
       → All (StandsOnLayers (more plain)) overlays
@@ -92,7 +96,7 @@ module _ (count : ℕ) (change : ℕ → ℕ) where
     where
       by : (b : Bool) → StandsOnLayers plain entry
           → StandsOnLayers plain (cond b (record entry { mounts = change entry.mounts }) entry)
-      by true stands = record { layers = stands.layers; some = stands.some; few = stands.few }
+      by true stands = stands
       by false stands = stands
 
 pub mounts_are_not_seen : MountsAreNotSeen

@@ -6,9 +6,10 @@ use Rattle.vt_location.proofs.NumberLemmas.{counted_test}
 use Rattle.vt_location.specs.Numbers.{counted}
 use Rattle.vt_fs.proofs.Numbers.{found_by_number}
 use Rattle.vt_fs.specs.FilesystemsValue.{FilesystemEntry, Filesystems, entry_at, entry_of, files_at, filesystem_seen, filesystems_seen, inodes_seen}
-use Rattle.vt_overlay.specs.MergedTree.{OverlayValue, merged_files}
+use Rattle.vt_layered.specs.LayeredTree.{layered_files}
+use Rattle.vt_layered.specs.LayeredValue.{LayeredValue}
 use Rattle.vt_store.specs.OverlaysValue.{OverlayEntry}
-use Rattle.vt_store.specs.StoreValue.{StoreValue, entry_in, filesystem_found, filesystem_in, files_in, overlay_filesystem, overlay_in, root_in, woven}
+use Rattle.vt_store.specs.StoreValue.{StoreValue, entry_in, filesystem_found, filesystem_in, files_in, layered_in, overlay_filesystem, root_in, woven}
 
 -- what is put in is found by its number, and all others as before
 find-put_in : (number : ℕ) (filesystem : Filesystem ℕ) (others : List (Filesystem ℕ))
@@ -67,54 +68,58 @@ module _ (store : StoreValue) (count : ℕ) where
       (no_filesystem (counted count))
   found_so o e = ap (λ found. unwrap_or found (no_filesystem (counted count))) (found_by o e)
 
+  -- an entry with what it keeps beside its layers
+  abbrev layered_entry : OverlayEntry → LayeredValue
+  layered_entry entry = record { overlay = entry.overlay; above = entry.above }
+
   -- a filesystem without an overlay of its count is a plain one
-  pub is_plain : overlay_in store count ≡ None
+  pub is_plain : layered_in store count ≡ None
       → filesystem_in store count ≡ filesystem_seen (entry_at store.plain count)
   is_plain none = by (entry_in store count) refl none
     where
-      by : (o : Option OverlayEntry) → entry_in store count ≡ o
-          → option_map (λ (entry : OverlayEntry). entry.overlay) o ≡ None
+      by : (o : Option OverlayEntry) → entry_in store count ≡ o → option_map layered_entry o ≡ None
           → filesystem_in store count ≡ filesystem_seen (entry_at store.plain count)
       by None e none = found_so None e ∙ found_by_number store.plain count
-      by (Some entry) e none = none_is_some entry.overlay (sym none)
+      by (Some entry) e none = none_is_some (layered_entry entry) (sym none)
 
   -- and one with an overlay of its count is that
-  pub record IsOver (overlay : OverlayValue) : Type 0 where
+  pub record IsOver (layered : LayeredValue) : Type 0 where
     pub entry : OverlayEntry
-    pub holds : entry.overlay ≡ overlay
+    pub holds : layered_entry entry ≡ layered
     pub among : Among entry store.overlays
     pub is : filesystem_in store count ≡ overlay_filesystem store.plain entry
 
-  pub is_over : (overlay : OverlayValue) → overlay_in store count ≡ Some overlay → IsOver overlay
-  is_over overlay some = by (entry_in store count) refl some
+  pub is_over : (layered : LayeredValue) → layered_in store count ≡ Some layered → IsOver layered
+  is_over layered some = by (entry_in store count) refl some
     where
       by : (o : Option OverlayEntry) → entry_in store count ≡ o
-          → option_map (λ (entry : OverlayEntry). entry.overlay) o ≡ Some overlay → IsOver overlay
-      by None e some = none_is_some overlay some
+          → option_map layered_entry o ≡ Some layered → IsOver layered
+      by None e some = none_is_some layered some
       by (Some entry) e some = record {
         entry = entry;
-        holds = same_Some entry.overlay overlay some;
+        holds = same_Some (layered_entry entry) layered some;
         among = found_among (λ (one : OverlayEntry). nat_eq count one.count) store.overlays entry e;
         is = found_so (Some entry) e;
       }
 
-  pub files_over : (overlay : OverlayValue) → overlay_in store count ≡ Some overlay
-      → merged_files store.plain overlay ≡ files_in store count
-  files_over overlay some =
-      let over = is_over overlay some in
-      sym (ap (λ (filesystem : Filesystem ℕ). filesystem.files) over.is ∙ ap (merged_files store.plain) over.holds)
+  pub files_over : (layered : LayeredValue) → layered_in store count ≡ Some layered
+      → layered_files store.plain layered.overlay layered.above ≡ files_in store count
+  files_over layered some =
+      let over = is_over layered some in
+      sym (ap (λ (filesystem : Filesystem ℕ). filesystem.files) over.is
+      ∙ ap (λ (one : LayeredValue). layered_files store.plain one.overlay one.above) over.holds)
 
-  pub files_plain : overlay_in store count ≡ None → files_at store.plain count ≡ files_in store count
+  pub files_plain : layered_in store count ≡ None → files_at store.plain count ≡ files_in store count
   files_plain none = sym (ap (λ (filesystem : Filesystem ℕ). filesystem.files) (is_plain none))
 
   -- it is an overlay if there is one of its count
-  pub is_overlay_in : is_some (overlay_in store count) ≡ is_some (filesystem_in store count).overlay
-  is_overlay_in = by (overlay_in store count) refl
+  pub is_overlay_in : is_some (layered_in store count) ≡ is_some (filesystem_in store count).overlay
+  is_overlay_in = by (layered_in store count) refl
     where
-      by : (o : Option OverlayValue) → overlay_in store count ≡ o
+      by : (o : Option LayeredValue) → layered_in store count ≡ o
           → is_some o ≡ is_some (filesystem_in store count).overlay
       by None e = sym (ap (λ (filesystem : Filesystem ℕ). is_some filesystem.overlay) (is_plain e))
-      by (Some overlay) e = sym (ap (λ (filesystem : Filesystem ℕ). is_some filesystem.overlay) (is_over overlay e).is)
+      by (Some layered) e = sym (ap (λ (filesystem : Filesystem ℕ). is_some filesystem.overlay) (is_over layered e).is)
 
 -- a plain filesystem is found by its count
 found_plain : (plain : Filesystems) (count : ℕ)
@@ -127,7 +132,7 @@ found_plain (entry ∷ plain) count =
 -- The root directory
 
 -- of a plain filesystem,
-pub root_plain : (store : StoreValue) (count : ℕ) → overlay_in store count ≡ None
+pub root_plain : (store : StoreValue) (count : ℕ) → layered_in store count ≡ None
     → option_map (λ entry. (inodes_seen entry).root) (entry_of store.plain count) ≡ root_in store count
 root_plain store count none = by (entry_in store count) refl none
   where
@@ -136,24 +141,24 @@ root_plain store count none = by (entry_in store count) refl none
     same o = grind (arith, common_steps)
 
     by : (o : Option OverlayEntry) → entry_in store count ≡ o
-        → option_map (λ (entry : OverlayEntry). entry.overlay) o ≡ None
+        → option_map (layered_entry store count) o ≡ None
         → option_map (λ entry. (inodes_seen entry).root) (entry_of store.plain count) ≡ root_in store count
     by None e none = same (entry_of store.plain count) ∙ ap (option_map (λ (one : Filesystem ℕ). one.files.tree.root))
         (sym (found_by store count None e ∙ found_plain store.plain count))
-    by (Some entry) e none = none_is_some entry.overlay (sym none)
+    by (Some entry) e none = none_is_some (layered_entry store count entry) (sym none)
 
 -- and of an overlay
-pub root_over : (store : StoreValue) (count : ℕ) (overlay : OverlayValue) → overlay_in store count ≡ Some overlay
-    → Some (merged_files store.plain overlay).tree.root ≡ root_in store count
-root_over store count overlay some = by (entry_in store count) refl some
+pub root_over : (store : StoreValue) (count : ℕ) (layered : LayeredValue) → layered_in store count ≡ Some layered
+    → Some (layered_files store.plain layered.overlay layered.above).tree.root ≡ root_in store count
+root_over store count layered some = by (entry_in store count) refl some
   where
-    by : (o : Option OverlayEntry) → entry_in store count ≡ o
-        → option_map (λ (entry : OverlayEntry). entry.overlay) o ≡ Some overlay
-        → Some (merged_files store.plain overlay).tree.root ≡ root_in store count
-    by None e some = none_is_some overlay some
-    by (Some entry) e some =
-        grind (arith, common_steps, same_Some entry.overlay overlay some, found_by store count (Some entry) e)
+    by : (o : Option OverlayEntry) → entry_in store count ≡ o → option_map (layered_entry store count) o ≡ Some layered
+        → Some (layered_files store.plain layered.overlay layered.above).tree.root ≡ root_in store count
+    by None e some = none_is_some layered some
+    by (Some entry) e some = ap (λ (one : LayeredValue). Some (layered_files store.plain one.overlay
+        one.above).tree.root) (sym (same_Some (layered_entry store count entry) layered some))
+        ∙ ap (option_map (λ (one : Filesystem ℕ). one.files.tree.root)) (sym (found_by store count (Some entry) e))
 
 -- what is found is there just if something is lent
-pub some_copied : (o : Option (Bor OverlayValue)) → is_some o ≡ is_some (option_copied o)
+pub some_copied : (o : Option (Bor LayeredValue)) → is_some o ≡ is_some (option_copied o)
 some_copied o = grind (arith, common_steps)

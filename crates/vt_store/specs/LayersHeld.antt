@@ -1,5 +1,5 @@
 -- What the layers of an overlay are counted as. Each is a use of its directory, and a mount of its filesystem.
-use Rattle.std.specs.Prelude.{All, List, [], filter, find, if◌then◌else◌, map, nat_eq, not, option_map, unwrap_or, ℕ, ◌+◌, ◌-◌, ◌≤◌}
+use Rattle.std.specs.Prelude.{All, List, None, [], filter, find, if◌then◌else◌, map, nat_eq, not, option_map, unwrap_or, ℕ, ◌+◌, ◌-◌, ◌≤◌}
 use Rattle.vt_spec.specs.Inodes.{pinned, unpinned, uses_in}
 use Rattle.vt_spec.specs.Lists.{folded}
 use Rattle.vt_spec.specs.Rights.{Credentials}
@@ -8,8 +8,9 @@ use Rattle.vt_location.specs.declared.numbers.FilesystemId.{FilesystemId}
 use Rattle.vt_location.specs.Locations.{inode_of}
 use Rattle.vt_fs.specs.FilesystemsValue.{Shown, shown_with}
 use Rattle.vt_overlay.specs.declared.merge.layers.LayerRef.{LayerRef}
+use Rattle.vt_layered.specs.LayeredValue.{held_layers}
 use Rattle.vt_store.specs.OverlaysValue.{OverlayEntry}
-use Rattle.vt_store.specs.StoreValue.{StoreValue, overlay_in}
+use Rattle.vt_store.specs.StoreValue.{StoreValue, layered_in}
 
 -- another number of mounts of a filesystem
 abbrev pub mounts_changed_if : ℕ → (ℕ → ℕ) → Shown → Shown
@@ -65,9 +66,11 @@ abbrev pub new_overlay : FilesystemId → List LayerRef → Credentials → Over
 new_overlay filesystem lowers mounter = record {
   count = filesystem.count;
   overlay = record { number = filesystem; lowers = lowers; mounter = mounter };
+  above = None;
   mounts = 0;
 }
 
--- the layers of an overlay; of any other filesystem none
-abbrev pub lowers_in : StoreValue → ℕ → List LayerRef
-lowers_in store count = unwrap_or (option_map (λ overlay. overlay.lowers) (overlay_in store count)) []
+-- the directories that an overlay holds; of any other filesystem none
+abbrev pub held_in : StoreValue → ℕ → List LayerRef
+held_in store count =
+    unwrap_or (option_map (λ layered. held_layers layered.overlay layered.above) (layered_in store count)) []

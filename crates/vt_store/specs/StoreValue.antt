@@ -1,16 +1,15 @@
 -- What contracts see of all filesystems, and what the definitions see of them.
-use Rattle.std.specs.Prelude.{All, List, None, Option, Some, [], find, if◌then◌else◌, length, nat_eq, nat_lt, option_map, ℕ, ◌<◌, ◌∷◌, ◌≤◌}
+use Rattle.std.specs.Prelude.{All, List, None, Option, Some, [], find, nat_eq, option_map, ℕ, ◌∷◌}
 use Rattle.vt_spec.specs.FileTree.{FileTree}
 use Rattle.vt_spec.specs.Machine.World.{Filesystem, Overlay, World, filesystem_numbered}
 use Rattle.vt_spec.specs.Tree.{Node}
 use Rattle.vt_laws_trees.specs.Overlays.InOrder.{put_in}
-use Rattle.vt_laws_trees.specs.Overlays.TreesSeen.{real_seen}
 use Rattle.vt_location.specs.Numbers.{counted}
 use Rattle.vt_fs.specs.FilesystemsValue.{Filesystems, files_at, filesystems_seen, node_seen}
-use Rattle.vt_overlay.specs.declared.merge.merging.TheConstants.{MOST_LAYERS}
-use Rattle.vt_overlay.specs.Alike.{real_lent}
-use Rattle.vt_overlay.specs.MergedTree.{AreLayers, OverlayValue, longest, merged_files, overlay_seen, plain_world, real_number}
-use Rattle.vt_store.specs.OverlaysValue.{OverlayEntry, Overlays, entry_kept, overlay_of}
+use Rattle.vt_overlay.specs.MergedTree.{OverlayValue, plain_world}
+use Rattle.vt_layered.specs.LayeredTree.{StandsLayered, layered_files, layered_lent, layered_objects, layered_seen}
+use Rattle.vt_layered.specs.LayeredValue.{LayeredValue}
+use Rattle.vt_store.specs.OverlaysValue.{OverlayEntry, Overlays, entry_kept, layered_of, overlay_of}
 
 -- the plain filesystems and the overlays, each in the order in which they were made
 pub record StoreValue : Type 0 where
@@ -24,19 +23,21 @@ entry_in store count = entry_kept store.overlays count
 abbrev pub overlay_in : StoreValue → ℕ → Option OverlayValue
 overlay_in store count = overlay_of store.overlays count
 
+abbrev pub layered_in : StoreValue → ℕ → Option LayeredValue
+layered_in store count = layered_of store.overlays count
+
 -- the overlays as the definitions see them: layers, mounter, and the real object of each inode,
-abbrev pub layers_and_objects : Filesystems → OverlayValue → Overlay ℕ
-layers_and_objects plain overlay = record (overlay_seen overlay) {
-  real = real_seen (real_number plain overlay) (λ number. None) (longest plain overlay.lowers) (plain_world plain)
-      (overlay_seen overlay);
+abbrev pub layers_and_objects : Filesystems → OverlayEntry → Overlay ℕ
+layers_and_objects plain entry = record (layered_seen entry.overlay entry.above) {
+  real = layered_objects plain entry.overlay entry.above;
 }
 
 -- and their trees
 abbrev pub overlay_filesystem : Filesystems → OverlayEntry → Filesystem ℕ
 overlay_filesystem plain entry = record {
   number = counted entry.count;
-  files = merged_files plain entry.overlay;
-  overlay = Some (layers_and_objects plain entry.overlay);
+  files = layered_files plain entry.overlay entry.above;
+  overlay = Some (layers_and_objects plain entry);
   change = 0;
 }
 
@@ -66,20 +67,19 @@ filesystem_in store count = filesystem_numbered nat_eq (store_world store) (coun
 abbrev pub files_in : StoreValue → ℕ → FileTree ℕ
 files_in store count = (filesystem_in store count).files
 
--- an overlay has layers that are directories of plain trees: one at least, and not too many
-pub record StandsOnLayers (plain : Filesystems) (entry : OverlayEntry) : Type 0 where
-  pub layers : AreLayers plain entry.overlay.lowers
-  pub some : 0 < length entry.overlay.lowers
-  pub few : length entry.overlay.lowers ≤ MOST_LAYERS
+-- an overlay has layers that are directories of plain trees: one at least, and not too many; and with an upper layer what
+-- it keeps is right
+abbrev pub StandsOnLayers : Filesystems → OverlayEntry → Type 0
+StandsOnLayers plain entry = StandsLayered plain entry.overlay entry.above
 
 -- and so have all
 abbrev pub StandOnLayers : StoreValue → Type 0
 StandOnLayers store = All (StandsOnLayers store.plain) store.overlays
 
 -- what is lent for a node: an inode of a plain tree by its slots, or the real object
-abbrev pub lent_by : Filesystems → ℕ → ℕ → Option OverlayValue → Option (Node ℕ)
+abbrev pub lent_by : Filesystems → ℕ → ℕ → Option LayeredValue → Option (Node ℕ)
 lent_by plain count number None = option_map (node_seen count) ((files_at plain count).tree.node number)
-lent_by plain count number (Some overlay) = real_lent plain overlay number
+lent_by plain count number (Some layered) = layered_lent plain layered.overlay layered.above number
 
 abbrev pub lent_in : StoreValue → ℕ → ℕ → Option (Node ℕ)
-lent_in store count number = lent_by store.plain count number (overlay_in store count)
+lent_in store count number = lent_by store.plain count number (layered_in store count)

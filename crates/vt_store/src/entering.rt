@@ -2,10 +2,10 @@
 ghost use Rattle.std.specs.Prelude.{◌≡◌, ◌++◌, ◌∷◌, ◌↔◌, [], OnErr, OnOk, length, nat_lt, true};
 ghost use Rattle.std.specs.List.{list_all};
 ghost use Rattle.vt_fs.specs.FilesystemsValue.{shown};
-ghost use Rattle.vt_store.specs.LayersHeld.{HaveRoomFor, lowers_in, new_overlay, with_layers};
+ghost use Rattle.vt_store.specs.LayersHeld.{HaveRoomFor, held_in, new_overlay, with_layers};
 ghost use Rattle.vt_store.specs.OverlaysValue.{without_overlay};
 
-use crate::layers::{has_room_for, hold_layers};
+use crate::layers::{has_room_for, hold};
 use crate::store::Store;
 use std::alloc::AllocError;
 use vt_cred::Cred;
@@ -47,17 +47,17 @@ impl Store {
         self.overlays.remove(filesystem);
     }
 
-    /// Holds the layers of an overlay that was put in, for which there is room: each pins its directory, and counts as
-    /// a mount of its filesystem. It does not allocate.
+    /// Holds the layers of an overlay that was put in, and its work directory, for which there is room: each pins its
+    /// directory, and counts as a mount of its filesystem. It does not allocate.
     pub fn hold_layers_of(&mut self, filesystem: FilesystemId)
-        requires { HaveRoomFor (length (lowers_in self.old filesystem.count)) (shown self.old.plain)
-            (lowers_in self.old filesystem.count) }
+        requires { HaveRoomFor (length (held_in self.old filesystem.count)) (shown self.old.plain)
+            (held_in self.old filesystem.count) }
         ensures overlays { self.new.overlays ≡ self.old.overlays }
         ensures held { shown self.new.plain
-            ≡ with_layers (lowers_in self.old filesystem.count) (shown self.old.plain) }
+            ≡ with_layers (held_in self.old filesystem.count) (shown self.old.plain) }
     {
         if let Some(overlay) = self.overlays.get(filesystem) {
-            hold_layers(&mut self.plain, overlay.lowers());
+            hold(&mut self.plain, overlay);
         }
     }
 }

@@ -3,8 +3,9 @@
 //! Each public function is a theorem of the written policy, and does nothing.
 ghost use Rattle.vt_store.specs.Laws.{MountsAreNotSeen, MountsLeaveLayers, NewOverlaysAreLast, NodesAreLikeObjects, OverlaysStandStill, OverlaysStayWithLayers, WorldsStandOnLayers};
 
-/// The overlays of a store stand on layers if its filesystems are those of a world with all invariants, and inodes have
-/// numbers of their own filesystem (`worlds`). They do still while their layers' trees stay (`still`).
+/// The overlays of a store stand on layers if its filesystems are those of a world with all invariants, inodes have
+/// numbers of their own filesystem, and what overlays with an upper layer keep is right (`worlds`). They do still while
+/// their layers' trees stay, and of one with an upper layer as many numbers beside them (`still`).
 pub fn overlays_stand_on_layers()
     ensures worlds { WorldsStandOnLayers }
     ensures still { OverlaysStandStill }
@@ -17,7 +18,7 @@ pub fn nodes_are_like_their_objects()
 {}
 
 /// An overlay whose layers are directories of plain trees shows what it showed while the trees of its layers are as
-/// they were, with as many numbers beside them.
+/// they were, with as many numbers beside them, and so is what it keeps beside its layers.
 ///
 /// No other tree matters, and no other overlay.
 pub fn overlays_stay_with_their_layers()

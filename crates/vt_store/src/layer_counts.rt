@@ -4,11 +4,13 @@ ghost use Rattle.std.specs.List.{list_any};
 ghost use Rattle.vt_spec.specs.Inodes.{ancestors};
 ghost use Rattle.vt_fs.specs.Trees.TreeValue.{inodes_of};
 ghost use Rattle.vt_overlay.specs.declared.merge.layers.LayerRef.{LayerRef};
+ghost use Rattle.vt_layered.specs.LayeredValue.{held_layers};
 ghost use Rattle.vt_store.specs.LayerTests.{layer_at};
 
 use crate::tally::Tally;
 use std::alloc::{AllocError, Global};
 use vt_fs::Tree;
+use vt_layered::Layered;
 use vt_location::{FilesystemId, InodeRef};
 use vt_node::NodeId;
 use vt_overlay::LayerRef;
@@ -115,6 +117,18 @@ impl LayerCounts {
     {
         for layer in layers {
             self.take_one(*layer);
+        }
+    }
+
+    /// Takes back the layers of an overlay, and its work directory. It does not allocate.
+    pub(crate) fn take_held(&mut self, overlay: &Layered)
+        ensures { (left : List LayerRef)
+            → AreCounted (held_layers overlay.now.overlay overlay.now.above ++ left) self.old
+            → AreCounted left self.new }
+    {
+        self.take(overlay.layers());
+        if let Some(work) = overlay.work() {
+            self.take_one(work);
         }
     }
 

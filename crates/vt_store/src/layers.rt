@@ -1,13 +1,15 @@
 //! Layers of overlays, held and let go: overlayfs. A layer pins its directory, and counts as a mount of its filesystem.
 ghost use Rattle.std.specs.Prelude.{◌≡◌, ◌-◌, ◌↔◌, All, None, length, true};
 ghost use Rattle.vt_fs.specs.FilesystemsValue.{shown};
-ghost use Rattle.vt_store.specs.Laws.{IsSameTree};
-ghost use Rattle.vt_store.specs.LayersHeld.{HasRoomFor, HaveRoomFor, lowers_in, with_layer, with_layers, without_layer, without_layers, without_unmounted, mounts_changed};
+ghost use Rattle.vt_store.specs.Laws.{StaysUnder};
+ghost use Rattle.vt_store.specs.LayersHeld.{HasRoomFor, HaveRoomFor, held_in, with_layer, with_layers, without_layer, without_layers, without_unmounted, mounts_changed};
+ghost use Rattle.vt_layered.specs.LayeredValue.{held_layers};
 ghost use Rattle.vt_store.specs.OverlaysValue.{without_overlay};
-ghost use Rattle.vt_store.specs.StoreValue.{StandOnLayers, overlay_in};
+ghost use Rattle.vt_store.specs.StoreValue.{StandOnLayers, layered_in};
 
 use crate::store::Store;
 use vt_fs::Filesystems;
+use vt_layered::Layered;
 use vt_location::FilesystemId;
 use vt_overlay::LayerRef;
 
@@ -17,15 +19,16 @@ impl Store {
     pub fn remove_overlay(&mut self, filesystem: FilesystemId)
         ensures overlays { self.new.overlays ≡ without_overlay filesystem.count self.old.overlays }
         ensures left { shown self.new.plain
-            ≡ without_layers (lowers_in self.old filesystem.count) (shown self.old.plain) }
-        ensures none { overlay_in self.old filesystem.count ≡ None → self.new ≡ self.old }
+            ≡ without_layers (held_in self.old filesystem.count) (shown self.old.plain) }
+        ensures none { layered_in self.old filesystem.count ≡ None → self.new ≡ self.old }
         // overlays that are left stand still where no directory of a layer went
         ensures standing { StandOnLayers self.old
-            → All (λ entry. All (IsSameTree self.old.plain self.new.plain) entry.overlay.lowers) self.new.overlays
+            → All (λ entry. All (StaysUnder self.old.plain self.new.plain entry) entry.overlay.lowers)
+            self.new.overlays
             → StandOnLayers self.new }
     {
         if let Some(overlay) = self.overlays.remove(filesystem) {
-            let_go_layers(&mut self.plain, overlay.lowers());
+            let_go(&mut self.plain, &overlay);
         }
     }
 }
@@ -51,8 +54,20 @@ fn has_room(plain: &Filesystems, layer: LayerRef, more: u64) -> bool
         && plain.mounts(layer.directory.filesystem) <= u64::MAX - more
 }
 
-// Layers more, for which there is room. It does not allocate.
-pub(crate) fn hold_layers(plain: &mut Filesystems, layers: &[LayerRef])
+// The layers of an overlay more, and its work directory, for which there is room. It does not allocate.
+pub(crate) fn hold(plain: &mut Filesystems, overlay: &Layered)
+    requires { HaveRoomFor (length (held_layers overlay.now.overlay overlay.now.above)) (shown plain.old)
+        (held_layers overlay.now.overlay overlay.now.above) }
+    ensures { shown plain.new ≡ with_layers (held_layers overlay.now.overlay overlay.now.above) (shown plain.old) }
+{
+    hold_layers(plain, overlay.layers());
+    if let Some(work) = overlay.work() {
+        hold_layer(plain, work);
+    }
+}
+
+// Layers more, for which there is room.
+fn hold_layers(plain: &mut Filesystems, layers: &[LayerRef])
     requires { HaveRoomFor (length layers.now) (shown plain.old) layers.now }
     ensures { shown plain.new ≡ with_layers layers.now (shown plain.old) }
 {
@@ -71,7 +86,18 @@ fn hold_layer(plain: &mut Filesystems, layer: LayerRef)
     let _ = plain.hold_mount(layer.directory.filesystem);
 }
 
-// Layers less: what is in use no more goes. It does not allocate.
+// The layers of an overlay less, and its work directory: what is in use no more goes. It does not allocate.
+fn let_go(plain: &mut Filesystems, overlay: &Layered)
+    ensures { shown plain.new
+        ≡ without_layers (held_layers overlay.now.overlay overlay.now.above) (shown plain.old) }
+{
+    let_go_layers(plain, overlay.layers());
+    if let Some(work) = overlay.work() {
+        let_go_layer(plain, work);
+    }
+}
+
+// Layers less.
 fn let_go_layers(plain: &mut Filesystems, layers: &[LayerRef])
     ensures { shown plain.new ≡ without_layers layers.now (shown plain.old) }
 {

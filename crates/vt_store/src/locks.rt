@@ -1,7 +1,6 @@
 //! What lies in layers of overlays, and is locked: the kernel's overlayfs document, "changes to underlying filesystems".
-ghost use Rattle.std.specs.Prelude.{◌≡◌, nat_eq};
+ghost use Rattle.std.specs.Prelude.{◌≡◌};
 ghost use Rattle.std.specs.List.{list_any};
-ghost use Rattle.vt_spec.specs.FileTree.{has_entry_to};
 ghost use Rattle.vt_location.specs.Locations.{inode_of};
 ghost use Rattle.vt_fs.specs.FilesystemsValue.{files_at};
 ghost use Rattle.vt_fs.specs.Laws.{ParentsAreNamed};
@@ -11,17 +10,19 @@ use crate::overlays::Overlays;
 use crate::store::Store;
 use vt_fs::Filesystems;
 use vt_location::InodeRef;
+use vt_upper_overlay::has_name;
 
 impl Store {
-    /// Whether an inode of a plain tree lies in a layer of an overlay: it is the layer's directory, a directory under
-    /// that, or has a name in one of these. If a layer is in its filesystem, it costs a look-up for each directory above
-    /// it, and of a file above each of its names, however many overlays and other files there are. Directories must be
-    /// named in their parents, as in every tree of a world. It does not allocate.
+    /// Whether an inode of a plain tree lies in a layer of an overlay, or in its work directory: it is that directory, a
+    /// directory under it, or has a name in one of these; or an overlay keeps it without a name, as what counts as under
+    /// its upper directory. If a layer is in its filesystem, it costs a look-up for each directory above it, and of a file
+    /// above each of its names, and one for each overlay. Directories must be named in their parents, as in every tree of a
+    /// world. It does not allocate.
     pub fn is_in_layer(&self, inode: InodeRef) -> bool
         requires { ParentsAreNamed (files_at self.now.plain inode.filesystem.count).tree }
         ensures { result ≡ is_in_layer self.now inode.filesystem.count (inode_of inode) }
     {
-        lies_in_any(&self.plain, &self.overlays, inode)
+        lies_in_any(&self.plain, &self.overlays, inode) || self.overlays.keep_object(inode)
     }
 }
 
@@ -75,16 +76,4 @@ fn names_in_layer(
 {
     // Most files lie in no layer: only of one that does are the names of the directory looked at.
     overlays.have_layer_over(plain, directory) && has_name(plain, directory, file)
-}
-
-/// Whether a directory has a name for an inode of its filesystem.
-pub(crate) fn has_name(plain: &Filesystems, directory: InodeRef, file: InodeRef) -> bool
-    requires { directory.filesystem ≡ file.filesystem }
-    ensures { result ≡ has_entry_to nat_eq (files_at plain.now file.filesystem.count).tree (inode_of directory)
-        (inode_of file) }
-{
-    match plain.node(directory.node_ref()) {
-        Some(node) => node.name_ranked(file.node(), 0).is_some(),
-        None => false,
-    }
 }

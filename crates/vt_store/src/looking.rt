@@ -49,7 +49,7 @@ impl Store {
         ensures { option_copied result ≡ lent_in self.now node.filesystem.count (number_of node) }
     {
         match self.overlay(node.filesystem) {
-            Some(overlay) => overlay.inode(&self.plain, node),
+            Some(overlay) => overlay.object(&self.plain, node),
             None => self.plain.node(node),
         }
     }
@@ -62,7 +62,7 @@ impl Store {
         ensures { option_copied result ≡ lent_in self.now node.filesystem.count (number_of node) }
     {
         match self.overlay(node.filesystem) {
-            Some(overlay) => overlay.inode_shown(&self.plain, node),
+            Some(overlay) => overlay.object_there(&self.plain, node),
             None => self.plain.node(node),
         }
     }

@@ -7,10 +7,10 @@ ghost use Rattle.vt_location.specs.Locations.{inode_of};
 ghost use Rattle.vt_fs.specs.FilesystemsValue.{files_at};
 ghost use Rattle.vt_store.specs.Naming.{lacks_no_name};
 
-use crate::locks::has_name;
 use crate::store::Store;
 use vt_fs::Filesystems;
 use vt_location::{FilesystemId, InodeRef};
+use vt_upper_overlay::has_name;
 
 impl Store {
     /// Whether each inode of a plain filesystem but its root has a name. One that does not exist has no inodes.

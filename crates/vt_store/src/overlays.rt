@@ -6,6 +6,8 @@ ghost use Rattle.vt_location.specs.Numbers.{most_counted};
 ghost use Rattle.vt_location.specs.Locations.{inode_of};
 ghost use Rattle.vt_fs.specs.FilesystemsValue.{files_at};
 ghost use Rattle.vt_fs.specs.Laws.{ParentsAreNamed};
+ghost use Rattle.vt_spec.specs.Lists.{holds_of};
+ghost use Rattle.vt_layered.specs.LayeredValue.{KeepsItsOwn};
 ghost use Rattle.vt_store.specs.Numbered.{AreNotOlder};
 
 use crate::layer_counts::LayerCounts;
@@ -14,13 +16,14 @@ use std::alloc::{AllocError, Global};
 use std::marker::Model;
 use vt_cred::Cred;
 use vt_fs::Filesystems;
+use vt_layered::Layered;
 use vt_location::{FilesystemId, InodeRef};
 use vt_overlay::{LayerRef, Overlay};
 
 // An overlay, and how many mounts show it.
 #[derive(Debug, Drop)]
 struct KeptOverlay {
-    overlay: Overlay,
+    overlay: Layered,
     mounts: u64,
 }
 
@@ -78,9 +81,9 @@ impl Model for Overlays {
 
 impl Overlays {
     ghost use Rattle.vt_store.specs.LayersHeld.{new_overlay};
-    ghost use Rattle.vt_store.specs.Named.{NameEach};
-    ghost use Rattle.vt_store.specs.Locks.{directory_lies_in_overlay, overlay_stands_in};
-    ghost use Rattle.vt_store.specs.OverlaysValue.{entry_kept, overlay_of, with_overlay_changed, without_overlay};
+    ghost use Rattle.vt_store.specs.Named.{NameEach, NameEntries};
+    ghost use Rattle.vt_store.specs.Locks.{directory_lies_in_overlay, keeps_in, overlay_stands_in};
+    ghost use Rattle.vt_store.specs.OverlaysValue.{entry_kept, layered_of, with_overlay_changed, without_overlay};
 
     /// No overlays. It does not allocate.
     pub fn new(alloc: Global) -> Self
@@ -103,16 +106,18 @@ impl Overlays {
 
     /// The numbers of all, in no order.
     pub fn ids(&self) -> &[FilesystemId]
-        ensures { NameEach result.now self.now }
+        ensures overlays { NameEach result.now self.now }
+        ensures entries { NameEntries result.now self.now }
     {
         self.by_number.keys().as_slice()
     }
 
     /// The overlay of this number, if there is one. No hash is taken for one older than all.
     #[inline(always)]
-    pub fn get(&self, id: FilesystemId) -> Option<&Overlay>
-        ensures value { option_copied result ≡ overlay_of self.now id.count }
-        ensures own { IfSome result (λ overlay. overlay.now.number ≡ id) }
+    pub fn get(&self, id: FilesystemId) -> Option<&Layered>
+        ensures value { option_copied result ≡ layered_of self.now id.count }
+        ensures own { IfSome result (λ layered. layered.now.overlay.number ≡ id) }
+        ensures nodes { IfSome result (λ layered. KeepsItsOwn layered.now.overlay layered.now.above) }
     {
         let found = found_under(&self.by_number, self.oldest, id)?;
         Some(&found.overlay)
@@ -133,7 +138,7 @@ impl Overlays {
         self.by_number.reserve(1)?;
         self.layers.add(lowers.as_slice());
         self.oldest = self.oldest.min(id.count);
-        let overlay = Overlay::new(id, lowers, mounter);
+        let overlay = Layered::lower(Overlay::new(id, lowers, mounter));
         // It cannot fail: there is room.
         let _ = self
             .by_number
@@ -142,15 +147,15 @@ impl Overlays {
     }
 
     /// Takes an overlay out. It does not allocate.
-    pub fn remove(&mut self, id: FilesystemId) -> Option<Overlay>
-        ensures value { result ≡ overlay_of self.old id.count }
+    pub fn remove(&mut self, id: FilesystemId) -> Option<Layered>
+        ensures value { result ≡ layered_of self.old id.count }
         ensures removed { self.new ≡ without_overlay id.count self.old }
     {
         let KeptOverlay {
             overlay,
             mounts: _mounts,
         } = self.by_number.swap_remove(&id)?;
-        self.layers.take(overlay.lowers());
+        self.layers.take_held(&overlay);
         Some(overlay)
     }
 
@@ -188,6 +193,27 @@ impl Overlays {
         ensures { result ≡ list_any (overlay_stands_in filesystem.count) self.now }
     {
         self.layers.has_in(filesystem)
+    }
+
+    /// Whether one of them keeps an inode without a name, as the object of a node in its upper layer. It asks each, if a
+    /// layer is in the inode's filesystem.
+    pub fn keep_object(&self, inode: InodeRef) -> bool
+        ensures { result ≡ list_any (keeps_in inode.filesystem.count (inode_of inode)) self.now }
+    {
+        if !self.have_layer_in(inode.filesystem) {
+            return false;
+        }
+        self.ids().iter().any(|id| self.keeps_object(*id, inode))
+    }
+
+    // Whether the overlay of this number keeps it.
+    fn keeps_object(&self, id: FilesystemId, inode: InodeRef) -> bool
+        ensures { result ≡ holds_of (keeps_in inode.filesystem.count (inode_of inode)) (entry_kept self.now id.count) }
+    {
+        match self.get(id) {
+            Some(layered) => layered.keeps_object(id, inode),
+            None => false,
+        }
     }
 
     /// Whether a directory of a plain tree lies in a layer of one of them: it or one above it is the layer's directory.

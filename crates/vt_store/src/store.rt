@@ -6,10 +6,10 @@ use crate::overlays::Overlays;
 use std::alloc::Global;
 use std::marker::Model;
 use vt_fs::Filesystems;
+use vt_layered::Layered;
 use vt_location::FilesystemId;
-use vt_overlay::Overlay;
 
-/// All filesystems: plain trees, and overlays without an upper layer, whose layers are directories of these trees.
+/// All filesystems: plain trees, and overlays, whose layers are directories of these trees.
 ///
 /// Overlays are kept by hash, in no order. A look at a filesystem that does not exist finds nothing.
 #[derive(Debug, Drop)]
@@ -27,7 +27,7 @@ impl Model for Store {
 }
 
 impl Store {
-    ghost use Rattle.vt_store.specs.StoreValue.{filesystem_in, overlay_in};
+    ghost use Rattle.vt_store.specs.StoreValue.{filesystem_in, layered_in};
     ghost use Rattle.vt_store.specs.Lends.{lends_plain};
     ghost use Rattle.vt_store.specs.Named.{NameEach};
 
@@ -74,9 +74,9 @@ impl Store {
 
     /// The overlay of a filesystem, if it is one.
     #[inline(always)]
-    pub fn overlay(&self, filesystem: FilesystemId) -> Option<&Overlay>
-        ensures value { option_copied result ≡ overlay_in self.now filesystem.count }
-        ensures own { IfSome result (λ overlay. overlay.now.number ≡ filesystem) }
+    pub fn overlay(&self, filesystem: FilesystemId) -> Option<&Layered>
+        ensures value { option_copied result ≡ layered_in self.now filesystem.count }
+        ensures own { IfSome result (λ layered. layered.now.overlay.number ≡ filesystem) }
     {
         self.overlays.get(filesystem)
     }

@@ -5,11 +5,11 @@ use Rattle.vt_location.specs.declared.locations.NodeRef.{NodeRef}
 use Rattle.vt_location.specs.Locations.{inode_of}
 use Rattle.vt_overlay.specs.declared.merge.layers.LayerRef.{LayerRef}
 use Rattle.vt_store.proofs.AnyNamed.{named_in_one, none_stands}
-use Rattle.vt_store.proofs.Locked.{directory_seen}
+use Rattle.vt_upper_overlay.proofs.Ranked.{directory_seen}
 use Rattle.vt_store.proofs.locks.lies_in_any.Goals.{in_default-via-in-Some+else-is_directory, in_default-via-in_default}
 use Rattle.vt_store.proofs.locks.lies_in_any.Goals as goal
 use Rattle.vt_store.specs.Locks.{lies_in_overlay}
-use Rattle.vt_store.specs.OverlaysValue.{OverlayEntry}
+use Rattle.vt_store.specs.OverlaysValue.{OverlayEntry, layers_held}
 
 -- a directory lies in a layer by its parents, and another inode by its names
 by_kind : (plain : Filesystems) (count number : ℕ) (overlays : List OverlayEntry) (b : Bool)
@@ -17,12 +17,12 @@ by_kind : (plain : Filesystems) (count number : ℕ) (overlays : List OverlayEnt
     → list_any (lies_in_overlay plain count number) overlays
     ≡ list_any (λ (entry : OverlayEntry). list_any (λ (layer : LayerRef). nat_eq count layer.directory.filesystem.count
     && cond b (is_directory_under nat_eq (files_at plain count) (inode_of layer.directory) number)
-    (is_file_under nat_eq (files_at plain count) (inode_of layer.directory) number)) entry.overlay.lowers) overlays
+    (is_file_under nat_eq (files_at plain count) (inode_of layer.directory) number)) (layers_held entry)) overlays
 by_kind plain count number overlays b kind =
     ap (λ b. list_any (λ (entry : OverlayEntry). list_any (λ (layer : LayerRef).
     nat_eq count layer.directory.filesystem.count
     && cond b (is_directory_under nat_eq (files_at plain count) (inode_of layer.directory) number)
-    (is_file_under nat_eq (files_at plain count) (inode_of layer.directory) number)) entry.overlay.lowers) overlays)
+    (is_file_under nat_eq (files_at plain count) (inode_of layer.directory) number)) (layers_held entry)) overlays)
     kind
 
 pub returns-then-not-have_layer_in : goal.returns-then-not-have_layer_in

@@ -3,17 +3,20 @@ use Rattle.vt_spec.proofs.Common.{YieldsList-from_slice, any_from_yields_List, h
 use Rattle.vt_location.specs.Numbers.{counted}
 use Rattle.vt_overlay.specs.declared.merge.layers.LayerRef.{LayerRef}
 use Rattle.vt_sealing.specs.Seen.{has_layer_in}
+use Rattle.vt_sealing.proofs.Lists.{overlay_found}
 use Rattle.vt_sealing.proofs.sealing.Sealing.has_layer_in.Goals as goal
 
 pub returns-in-Some : goal.returns-in-Some
 returns-in-Some c =
     let filesystem = counted c.args.filesystem.count in
     any_from_yields_List (λ (layer : LayerRef). nat_eq filesystem (counted layer.directory.filesystem.count)) _ _ _
-    c.any.ensures.ran (YieldsList-from_slice c.lowers.result.now cc) (λ x b q k. search rules)
+    c.any.ensures.ran (YieldsList-from_slice c.layers.result.now cc) (λ x b q k. search rules)
     ∙ ap (list_any (λ (layer : LayerRef). nat_eq filesystem (counted layer.directory.filesystem.count)))
-    c.lowers.ensures
-    ∙ ap (holds_of (has_layer_in filesystem)) (sym (ap option_copied c.in-Some.is) ∙ c.overlay.ensures.value)
+    c.layers.ensures
+    ∙ ap (holds_of (has_layer_in filesystem)) (overlay_found c.args.self.now.store.now.overlays
+    c.args.id.count _ (sym (ap option_copied c.in-Some.is) ∙ c.overlay.ensures.value))
 
 pub returns-in-None : goal.returns-in-None
 returns-in-None c = ap (holds_of (has_layer_in (counted c.args.filesystem.count)))
-    (sym (ap option_copied c.in-None.is) ∙ c.overlay.ensures.value)
+    (overlay_found c.args.self.now.store.now.overlays
+    c.args.id.count _ (sym (ap option_copied c.in-None.is) ∙ c.overlay.ensures.value))

@@ -1,27 +1,19 @@
-use Rattle.std.proofs.Common.{ap, option_copied, sym, ◌∙◌, arith}
+use Rattle.std.proofs.Common.{ap, is_some, option_copied, sym, ◌∙◌, arith}
 use Rattle.vt_spec.proofs.Common.{entries_in, entry_named, common_steps}
 use Rattle.vt_location.specs.Locations.{number_of}
-use Rattle.vt_overlay.proofs.EntriesShown.{lent_is_shown}
 use Rattle.vt_store.specs.StoreValue.{StoreValue, lent_in}
 use Rattle.vt_store.proofs.Lending.{lent_with}
-use Rattle.vt_store.proofs.Looked.{over_few, over_layers, over_lent, over_node, plain_node}
+use Rattle.vt_store.proofs.Looked.{over_lent, over_node, over_stands, plain_node}
 use Rattle.vt_store.proofs.store.Store.any_entry.Goals as goal
 
-pub entry-requires-clause-layers : goal.entry-requires-clause-layers
-entry-requires-clause-layers c =
-    over_layers c.args.self.now c.self.inside.plain (ap (λ (store : StoreValue). store.plain) c.self.view_is)
+pub entry-requires-clause-standing : goal.entry-requires-clause-standing
+entry-requires-clause-standing c =
+    over_stands c.args.self.now c.self.inside.plain (ap (λ (store : StoreValue). store.plain) c.self.view_is)
     c.args.directory.filesystem.count c.in-Some.overlay.now
     (sym c.overlay.ensures.value ∙ ap option_copied c.in-Some.is) c.requires.standing
 
-pub entry-requires-clause-few : goal.entry-requires-clause-few
-entry-requires-clause-few c =
-    over_few c.args.self.now c.self.inside.plain (ap (λ (store : StoreValue). store.plain) c.self.view_is)
-    c.args.directory.filesystem.count c.in-Some.overlay.now
-    (sym c.overlay.ensures.value ∙ ap option_copied c.in-Some.is) c.requires.standing
-
-pub entry-requires-clause-shown : goal.entry-requires-clause-shown
-entry-requires-clause-shown c =
-    lent_is_shown c.self.inside.plain c.in-Some.overlay.now (number_of c.args.directory) c.args.object.now
+pub entry-requires-clause-there : goal.entry-requires-clause-there
+entry-requires-clause-there c = ap is_some
     (over_lent c.args.self.now c.self.inside.plain (ap (λ (store : StoreValue). store.plain) c.self.view_is)
     c.args.directory.filesystem.count c.in-Some.overlay.now
     (sym c.overlay.ensures.value ∙ ap option_copied c.in-Some.is) (number_of c.args.directory) ∙ c.requires.object)

@@ -3,23 +3,17 @@ use Rattle.vt_location.specs.Locations.{number_of}
 use Rattle.vt_fs.specs.FilesystemsValue.{node_seen}
 use Rattle.vt_overlay.proofs.ObjectsAlike.{seen_twice}
 use Rattle.vt_store.specs.StoreValue.{StoreValue}
-use Rattle.vt_store.proofs.Looked.{over_few, over_layers, over_lent, plain_lent}
+use Rattle.vt_store.proofs.Looked.{over_lent, over_stands, plain_lent}
 use Rattle.vt_store.proofs.store.Store.any_object.Goals as goal
 
-pub inode-requires-clause-layers : goal.inode-requires-clause-layers
-inode-requires-clause-layers c =
-    over_layers c.args.self.now c.self.inside.plain (ap (λ (store : StoreValue). store.plain) c.self.view_is)
-    c.args.node.filesystem.count c.in-Some.overlay.now (sym c.overlay.ensures.value ∙ ap option_copied c.in-Some.is)
-    c.requires
-
-pub inode-requires-clause-few : goal.inode-requires-clause-few
-inode-requires-clause-few c =
-    over_few c.args.self.now c.self.inside.plain (ap (λ (store : StoreValue). store.plain) c.self.view_is)
+pub object-requires-clause-standing : goal.object-requires-clause-standing
+object-requires-clause-standing c =
+    over_stands c.args.self.now c.self.inside.plain (ap (λ (store : StoreValue). store.plain) c.self.view_is)
     c.args.node.filesystem.count c.in-Some.overlay.now (sym c.overlay.ensures.value ∙ ap option_copied c.in-Some.is)
     c.requires
 
 pub returns-in-Some : goal.returns-in-Some
-returns-in-Some c = c.inode.ensures.lent
+returns-in-Some c = c.object.ensures
     ∙ over_lent c.args.self.now c.self.inside.plain (ap (λ (store : StoreValue). store.plain) c.self.view_is)
     c.args.node.filesystem.count c.in-Some.overlay.now
     (sym c.overlay.ensures.value ∙ ap option_copied c.in-Some.is) (number_of c.args.node)

@@ -3,30 +3,18 @@ use Rattle.vt_spec.proofs.Common.{FileTree, is_directory_under, is_removed}
 use Rattle.vt_location.specs.Locations.{number_of}
 use Rattle.vt_fs.specs.Laws.{LieUnderRoot, ParentsAreNamed, is_lost_under}
 use Rattle.vt_store.specs.StoreValue.{StoreValue, files_in}
-use Rattle.vt_store.proofs.Looked.{over_few, over_files, over_layers, plain_files}
+use Rattle.vt_store.proofs.Looked.{over_files, over_stands, plain_files}
 use Rattle.vt_store.proofs.store.Store.is_lost.Goals as goal
 
-pub is_removed-requires-clause-layers : goal.is_removed-requires-clause-layers
-is_removed-requires-clause-layers c =
-    over_layers c.args.self.now c.self.inside.plain (ap (λ (store : StoreValue). store.plain) c.self.view_is)
+pub is_removed-requires-clause-standing : goal.is_removed-requires-clause-standing
+is_removed-requires-clause-standing c =
+    over_stands c.args.self.now c.self.inside.plain (ap (λ (store : StoreValue). store.plain) c.self.view_is)
     c.args.root.filesystem.count c.in-Some.overlay.now (sym c.overlay.ensures.value ∙ ap option_copied c.in-Some.is)
     c.requires.standing
 
-pub is_removed-requires-clause-few : goal.is_removed-requires-clause-few
-is_removed-requires-clause-few c =
-    over_few c.args.self.now c.self.inside.plain (ap (λ (store : StoreValue). store.plain) c.self.view_is)
-    c.args.root.filesystem.count c.in-Some.overlay.now (sym c.overlay.ensures.value ∙ ap option_copied c.in-Some.is)
-    c.requires.standing
-
-pub is_under-requires-clause-layers : goal.is_under-requires-clause-layers
-is_under-requires-clause-layers c =
-    over_layers c.args.self.now c.self.inside.plain (ap (λ (store : StoreValue). store.plain) c.self.view_is)
-    c.args.root.filesystem.count c.in-Some.overlay.now (sym c.overlay.ensures.value ∙ ap option_copied c.in-Some.is)
-    c.requires.standing
-
-pub is_under-requires-clause-few : goal.is_under-requires-clause-few
-is_under-requires-clause-few c =
-    over_few c.args.self.now c.self.inside.plain (ap (λ (store : StoreValue). store.plain) c.self.view_is)
+pub is_under-requires-clause-standing : goal.is_under-requires-clause-standing
+is_under-requires-clause-standing c =
+    over_stands c.args.self.now c.self.inside.plain (ap (λ (store : StoreValue). store.plain) c.self.view_is)
     c.args.root.filesystem.count c.in-Some.overlay.now (sym c.overlay.ensures.value ∙ ap option_copied c.in-Some.is)
     c.requires.standing
 

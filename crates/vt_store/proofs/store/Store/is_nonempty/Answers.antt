@@ -3,18 +3,12 @@ use Rattle.vt_spec.proofs.Common.{entries_in, is_empty_list}
 use Rattle.vt_location.specs.Locations.{number_of}
 use Rattle.vt_store.specs.StoreValue.{StoreValue}
 use Rattle.vt_store.proofs.Lending.{empty-seen}
-use Rattle.vt_store.proofs.Looked.{over_few, over_layers, over_node, plain_node}
+use Rattle.vt_store.proofs.Looked.{over_node, over_stands, plain_node}
 use Rattle.vt_store.proofs.store.Store.is_nonempty.Goals as goal
 
-pub is_nonempty-requires-clause-layers : goal.is_nonempty-requires-clause-layers
-is_nonempty-requires-clause-layers c =
-    over_layers c.args.self.now c.self.inside.plain (ap (λ (store : StoreValue). store.plain) c.self.view_is)
-    c.args.directory.filesystem.count c.in-Some.overlay.now
-    (sym c.overlay.ensures.value ∙ ap option_copied c.in-Some.is) c.requires
-
-pub is_nonempty-requires-clause-few : goal.is_nonempty-requires-clause-few
-is_nonempty-requires-clause-few c =
-    over_few c.args.self.now c.self.inside.plain (ap (λ (store : StoreValue). store.plain) c.self.view_is)
+pub is_nonempty-requires-clause-standing : goal.is_nonempty-requires-clause-standing
+is_nonempty-requires-clause-standing c =
+    over_stands c.args.self.now c.self.inside.plain (ap (λ (store : StoreValue). store.plain) c.self.view_is)
     c.args.directory.filesystem.count c.in-Some.overlay.now
     (sym c.overlay.ensures.value ∙ ap option_copied c.in-Some.is) c.requires
 

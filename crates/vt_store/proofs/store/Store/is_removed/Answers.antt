@@ -3,18 +3,12 @@ use Rattle.vt_spec.proofs.Common.{FileTree, is_removed}
 use Rattle.vt_location.specs.Locations.{number_of}
 use Rattle.vt_fs.specs.Laws.{ParentsAreNamed}
 use Rattle.vt_store.specs.StoreValue.{StoreValue}
-use Rattle.vt_store.proofs.Looked.{over_few, over_files, over_layers, plain_files}
+use Rattle.vt_store.proofs.Looked.{over_files, over_stands, plain_files}
 use Rattle.vt_store.proofs.store.Store.is_removed.Goals as goal
 
-pub is_removed-requires-clause-layers : goal.is_removed-requires-clause-layers
-is_removed-requires-clause-layers c =
-    over_layers c.args.self.now c.self.inside.plain (ap (λ (store : StoreValue). store.plain) c.self.view_is)
-    c.args.directory.filesystem.count c.in-Some.overlay.now
-    (sym c.overlay.ensures.value ∙ ap option_copied c.in-Some.is) c.requires.standing
-
-pub is_removed-requires-clause-few : goal.is_removed-requires-clause-few
-is_removed-requires-clause-few c =
-    over_few c.args.self.now c.self.inside.plain (ap (λ (store : StoreValue). store.plain) c.self.view_is)
+pub is_removed-requires-clause-standing : goal.is_removed-requires-clause-standing
+is_removed-requires-clause-standing c =
+    over_stands c.args.self.now c.self.inside.plain (ap (λ (store : StoreValue). store.plain) c.self.view_is)
     c.args.directory.filesystem.count c.in-Some.overlay.now
     (sym c.overlay.ensures.value ∙ ap option_copied c.in-Some.is) c.requires.standing
 

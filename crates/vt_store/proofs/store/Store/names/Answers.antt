@@ -2,18 +2,12 @@ use Rattle.std.proofs.Common.{IfOk, ap, map, option_copied, subst, sym, ◌≡�
 use Rattle.vt_spec.proofs.Common.{entries_in, names_in}
 use Rattle.vt_location.specs.Locations.{number_of}
 use Rattle.vt_store.specs.StoreValue.{StoreValue}
-use Rattle.vt_store.proofs.Looked.{over_few, over_layers, over_node, plain_node}
+use Rattle.vt_store.proofs.Looked.{over_node, over_stands, plain_node}
 use Rattle.vt_store.proofs.store.Store.names.Goals as goal
 
-pub names-requires-clause-layers : goal.names-requires-clause-layers
-names-requires-clause-layers c =
-    over_layers c.args.self.now c.self.inside.plain (ap (λ (store : StoreValue). store.plain) c.self.view_is)
-    c.args.directory.filesystem.count c.in-Some.overlay.now
-    (sym c.overlay.ensures.value ∙ ap option_copied c.in-Some.is) c.requires
-
-pub names-requires-clause-few : goal.names-requires-clause-few
-names-requires-clause-few c =
-    over_few c.args.self.now c.self.inside.plain (ap (λ (store : StoreValue). store.plain) c.self.view_is)
+pub names-requires-clause-standing : goal.names-requires-clause-standing
+names-requires-clause-standing c =
+    over_stands c.args.self.now c.self.inside.plain (ap (λ (store : StoreValue). store.plain) c.self.view_is)
     c.args.directory.filesystem.count c.in-Some.overlay.now
     (sym c.overlay.ensures.value ∙ ap option_copied c.in-Some.is) c.requires
 

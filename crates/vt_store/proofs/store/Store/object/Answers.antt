@@ -2,7 +2,7 @@ use Rattle.std.proofs.Common.{ap, option_copied, option_map, sym, ◌∙◌}
 use Rattle.vt_location.specs.Locations.{number_of}
 use Rattle.vt_fs.specs.FilesystemsValue.{node_seen}
 use Rattle.vt_overlay.proofs.ObjectsAlike.{seen_twice}
-use Rattle.vt_store.specs.OverlaysValue.{overlay_of}
+use Rattle.vt_store.specs.OverlaysValue.{layered_of}
 use Rattle.vt_store.specs.StoreValue.{StoreValue}
 use Rattle.vt_store.proofs.Looked.{plain_lent}
 use Rattle.vt_store.proofs.store.Store.object.Goals as goal
@@ -17,5 +17,5 @@ returns-else-has_overlays c =
     ∙ ap (option_map (node_seen node.filesystem.count)) c.node.ensures
     ∙ plain_lent c.args.self.now c.self.inside.plain (ap (λ (store : StoreValue). store.plain) c.self.view_is)
     node.filesystem.count
-    (ap (λ overlays. overlay_of overlays node.filesystem.count) (c.has_overlays.ensures.0 c.if-has_overlays.false))
+    (ap (λ overlays. layered_of overlays node.filesystem.count) (c.has_overlays.ensures.0 c.if-has_overlays.false))
     (number_of node)

@@ -1,39 +1,25 @@
-use Rattle.std.proofs.Common.{None, Option, Some, ap, option_copied, option_map, refl, sym, true≢false, ◌∙◌, ◌≡◌, IsSome}
+use Rattle.std.proofs.Common.{IsSome, ap, option_copied, option_map, subst, sym, ◌∙◌}
 use Rattle.vt_location.specs.Locations.{number_of}
 use Rattle.vt_fs.specs.FilesystemsValue.{node_seen}
-use Rattle.vt_overlay.proofs.EntriesShown.{lent_is_shown}
 use Rattle.vt_overlay.proofs.ObjectsAlike.{seen_twice}
-use Rattle.vt_store.specs.StoreValue.{StoreValue, lent_in}
-use Rattle.vt_store.proofs.Looked.{over_few, over_layers, over_lent, plain_lent}
+use Rattle.vt_store.specs.StoreValue.{StoreValue}
+use Rattle.vt_store.proofs.Looked.{over_lent, over_stands, plain_lent}
 use Rattle.vt_store.proofs.store.Store.object_there.Goals as goal
 
-pub inode_shown-requires-clause-layers : goal.inode_shown-requires-clause-layers
-inode_shown-requires-clause-layers c =
-    over_layers c.args.self.now c.self.inside.plain (ap (λ (store : StoreValue). store.plain) c.self.view_is)
+pub object_there-requires-clause-standing : goal.object_there-requires-clause-standing
+object_there-requires-clause-standing c =
+    over_stands c.args.self.now c.self.inside.plain (ap (λ (store : StoreValue). store.plain) c.self.view_is)
     c.args.node.filesystem.count c.in-Some.overlay.now (sym c.overlay.ensures.value ∙ ap option_copied c.in-Some.is)
     c.requires.standing
 
-pub inode_shown-requires-clause-few : goal.inode_shown-requires-clause-few
-inode_shown-requires-clause-few c =
-    over_few c.args.self.now c.self.inside.plain (ap (λ (store : StoreValue). store.plain) c.self.view_is)
-    c.args.node.filesystem.count c.in-Some.overlay.now (sym c.overlay.ensures.value ∙ ap option_copied c.in-Some.is)
-    c.requires.standing
-
-something : {A : Type 0} (o : Option A) → IsSome o → (a : A) × (o ≡ Some a)
-something None some = absurd (true≢false (sym some))
-something (Some a) some = (a, refl)
-
-pub inode_shown-requires-clause-shown : goal.inode_shown-requires-clause-shown
-inode_shown-requires-clause-shown c =
-    let count = c.args.node.filesystem.count in
-    let number = number_of c.args.node in
-    let lent = something (lent_in c.args.self.now count number) c.requires.there in
-    lent_is_shown c.self.inside.plain c.in-Some.overlay.now number lent.0
-    (over_lent c.args.self.now c.self.inside.plain (ap (λ (store : StoreValue). store.plain) c.self.view_is) count
-    c.in-Some.overlay.now (sym c.overlay.ensures.value ∙ ap option_copied c.in-Some.is) number ∙ lent.1)
+pub object_there-requires-clause-there : goal.object_there-requires-clause-there
+object_there-requires-clause-there c = subst IsSome
+    (sym (over_lent c.args.self.now c.self.inside.plain (ap (λ (store : StoreValue). store.plain) c.self.view_is)
+    c.args.node.filesystem.count c.in-Some.overlay.now
+    (sym c.overlay.ensures.value ∙ ap option_copied c.in-Some.is) (number_of c.args.node))) c.requires.there
 
 pub returns-in-Some : goal.returns-in-Some
-returns-in-Some c = c.inode_shown.ensures
+returns-in-Some c = c.object_there.ensures
     ∙ over_lent c.args.self.now c.self.inside.plain (ap (λ (store : StoreValue). store.plain) c.self.view_is)
     c.args.node.filesystem.count c.in-Some.overlay.now
     (sym c.overlay.ensures.value ∙ ap option_copied c.in-Some.is) (number_of c.args.node)

@@ -2,19 +2,13 @@ use Rattle.std.proofs.Common.{ap, option_copied, option_map, sym, ◌∙◌}
 use Rattle.vt_spec.proofs.Common.{is_directory_node, parent_in, when}
 use Rattle.vt_location.specs.Locations.{number_of}
 use Rattle.vt_store.specs.StoreValue.{StoreValue, files_in}
-use Rattle.vt_store.proofs.Looked.{no_directory, over_few, over_layers, over_node, plain_node, when_is}
+use Rattle.vt_store.proofs.Looked.{no_directory, over_node, over_stands, plain_node, when_is}
 use Rattle.vt_store.proofs.store.Store.parent.Goals.{in-None, in-Some}
 use Rattle.vt_store.proofs.store.Store.parent.Goals as goal
 
-pub parent-parent-requires-clause-layers : goal.parent-parent-requires-clause-layers
-parent-parent-requires-clause-layers c =
-    over_layers c.args.self.now c.self.inside.plain (ap (λ (store : StoreValue). store.plain) c.self.view_is)
-    c.args.node.filesystem.count c.in-Some.overlay.now (sym c.overlay.ensures.value ∙ ap option_copied c.in-Some.is)
-    c.requires
-
-pub parent-parent-requires-clause-few : goal.parent-parent-requires-clause-few
-parent-parent-requires-clause-few c =
-    over_few c.args.self.now c.self.inside.plain (ap (λ (store : StoreValue). store.plain) c.self.view_is)
+pub parent-parent-requires-clause-standing : goal.parent-parent-requires-clause-standing
+parent-parent-requires-clause-standing c =
+    over_stands c.args.self.now c.self.inside.plain (ap (λ (store : StoreValue). store.plain) c.self.view_is)
     c.args.node.filesystem.count c.in-Some.overlay.now (sym c.overlay.ensures.value ∙ ap option_copied c.in-Some.is)
     c.requires
 

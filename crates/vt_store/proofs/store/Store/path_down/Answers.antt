@@ -4,7 +4,7 @@ use Rattle.vt_location.specs.Locations.{number_of}
 use Rattle.vt_location.specs.declared.numbers.FilesystemId.{FilesystemId}
 use Rattle.vt_fs.specs.Trees.Paths.{NamesDirectoriesOnce}
 use Rattle.vt_store.specs.StoreValue.{StoreValue}
-use Rattle.vt_store.proofs.Looked.{over_few, over_files, over_layers, plain_files}
+use Rattle.vt_store.proofs.Looked.{over_files, over_stands, plain_files}
 use Rattle.vt_store.proofs.NumbersOwned.{no_path}
 use Rattle.vt_store.proofs.store.Store.path_down.Goals as goal
 
@@ -33,15 +33,9 @@ returns-then-ne c = record {
       (search rules) (search rules) refl (search rules));
 }
 
-pub path_down-requires-2-clause-layers : goal.path_down-requires-2-clause-layers
-path_down-requires-2-clause-layers c =
-    over_layers c.args.self.now c.self.inside.plain (ap (λ (store : StoreValue). store.plain) c.self.view_is)
-    c.args.top.filesystem.count c.in-Some.overlay.now (sym c.overlay.ensures.value ∙ ap option_copied c.in-Some.is)
-    c.requires.standing
-
-pub path_down-requires-2-clause-few : goal.path_down-requires-2-clause-few
-path_down-requires-2-clause-few c =
-    over_few c.args.self.now c.self.inside.plain (ap (λ (store : StoreValue). store.plain) c.self.view_is)
+pub path_down-requires-2-clause-standing : goal.path_down-requires-2-clause-standing
+path_down-requires-2-clause-standing c =
+    over_stands c.args.self.now c.self.inside.plain (ap (λ (store : StoreValue). store.plain) c.self.view_is)
     c.args.top.filesystem.count c.in-Some.overlay.now (sym c.overlay.ensures.value ∙ ap option_copied c.in-Some.is)
     c.requires.standing
 

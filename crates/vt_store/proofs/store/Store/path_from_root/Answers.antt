@@ -2,9 +2,9 @@ use Rattle.std.proofs.Common.{IfOk, ap, map, nat_eq, option_copied, option_map, 
 use Rattle.vt_spec.proofs.Common.{FileTree, path_down}
 use Rattle.vt_location.specs.Locations.{number_of}
 use Rattle.vt_fs.specs.Trees.Paths.{NamesDirectoriesOnce}
-use Rattle.vt_overlay.specs.MergedTree.{merged_files, merged_tree}
+use Rattle.vt_layered.specs.LayeredTree.{layered_files}
 use Rattle.vt_store.specs.StoreValue.{StoreValue}
-use Rattle.vt_store.proofs.Looked.{over_few, over_files, over_layers, over_stands, plain_files}
+use Rattle.vt_store.proofs.Looked.{over_files, over_stands, plain_files}
 use Rattle.vt_store.proofs.store.Store.path_from_root.Goals as goal
 
 pub unwrap-root-requires : goal.unwrap-root-requires
@@ -12,26 +12,28 @@ unwrap-root-requires c =
     c.root.ensures.some (over_stands c.args.self.now c.args.self.now.plain refl c.args.directory.filesystem.count
     c.in-Some.overlay.now (sym c.overlay.ensures.value ∙ ap option_copied c.in-Some.is) c.requires.standing).some
 
-pub path_down-requires-clause-layers : goal.path_down-requires-clause-layers
-path_down-requires-clause-layers c =
-    over_layers c.args.self.now c.self.inside.plain (ap (λ (store : StoreValue). store.plain) c.self.view_is)
+pub path_down-requires-clause-standing : goal.path_down-requires-clause-standing
+path_down-requires-clause-standing c =
+    over_stands c.args.self.now c.self.inside.plain (ap (λ (store : StoreValue). store.plain) c.self.view_is)
     c.args.directory.filesystem.count c.in-Some.overlay.now
     (sym c.overlay.ensures.value ∙ ap option_copied c.in-Some.is) c.requires.standing
 
-pub path_down-requires-clause-few : goal.path_down-requires-clause-few
-path_down-requires-clause-few c =
-    over_few c.args.self.now c.self.inside.plain (ap (λ (store : StoreValue). store.plain) c.self.view_is)
+pub path_down-requires-clause-one_filesystem : goal.path_down-requires-clause-one_filesystem
+path_down-requires-clause-one_filesystem c =
+    let stands = over_stands c.args.self.now c.self.inside.plain (ap (λ (store : StoreValue). store.plain) c.self.view_is)
     c.args.directory.filesystem.count c.in-Some.overlay.now
-    (sym c.overlay.ensures.value ∙ ap option_copied c.in-Some.is) c.requires.standing
+    (sym c.overlay.ensures.value ∙ ap option_copied c.in-Some.is) c.requires.standing in
+    subst (λ root. IfSome root (λ one. one.filesystem ≡ c.in-Some.overlay.now.overlay.number)) c.unwrap-root.ensures
+    (c.root.ensures.own c.self.inside.plain stands)
 
 pub returns-in-Some : goal.returns-in-Some
 returns-in-Some c =
     let is = sym c.overlay.ensures.value ∙ ap option_copied c.in-Some.is in
     let same = ap (λ (store : StoreValue). store.plain) c.self.view_is in
     let root = subst (λ root. IfSome root (λ one. number_of one
-    ≡ (merged_tree c.self.inside.plain c.in-Some.overlay.now).root)) c.unwrap-root.ensures
+    ≡ (layered_files c.self.inside.plain c.in-Some.overlay.now.overlay c.in-Some.overlay.now.above).tree.root)) c.unwrap-root.ensures
     (c.root.ensures.root c.self.inside.plain
-    (over_layers c.args.self.now c.self.inside.plain same c.args.directory.filesystem.count c.in-Some.overlay.now is
+    (over_stands c.args.self.now c.self.inside.plain same c.args.directory.filesystem.count c.in-Some.overlay.now is
     c.requires.standing)) in record {
       ok = subst (λ (files : FileTree ℕ). IfOk c.path_down.result
           (λ path. option_map (λ names. map (λ name. name.items) names.items) path
@@ -39,7 +41,8 @@ returns-in-Some c =
           (over_files c.args.self.now c.self.inside.plain same c.args.directory.filesystem.count c.in-Some.overlay.now
           is) (subst (λ (number : ℕ). IfOk c.path_down.result
           (λ path. option_map (λ names. map (λ name. name.items) names.items) path
-          ≡ path_down nat_eq (merged_files c.self.inside.plain c.in-Some.overlay.now) number
+          ≡ path_down nat_eq (layered_files c.self.inside.plain c.in-Some.overlay.now.overlay
+          c.in-Some.overlay.now.above) number
           (number_of c.args.directory))) root c.path_down.ensures);
     }
 
