@@ -61,7 +61,7 @@ fn add_lock(look: &Look<'_, '_>, section: &mut Section, at: Location, mount: &Mo
         return false;
     };
     let mut place: u64 = 0;
-    for layer in overlay.lowers() {
+    for layer in overlay.layers() {
         place = place.saturating_add(1);
         let directory = layer.directory.node_ref();
         if lies_under(look, section, at, directory) {

@@ -79,9 +79,9 @@ pub use Rattle.vt_retype.proofs.Left.{StillTyped}
 pub use Rattle.vt_retype.specs.Retyping.{AreTyped, typed_entry, with_kind}
 pub use Rattle.vt_store.proofs.Woven.{some_copied}
 pub use Rattle.vt_store.specs.Counts.{with_mounts, with_mounts_by}
-pub use Rattle.vt_store.specs.LayersHeld.{lowers_in, with_layers}
+pub use Rattle.vt_store.specs.LayersHeld.{held_in, with_layers}
 pub use Rattle.vt_store.specs.OverlaysValue.{Overlays, entry_kept, with_overlay_changed, without_overlay}
-pub use Rattle.vt_store.specs.StoreValue.{StoreValue, entry_in, overlay_in}
+pub use Rattle.vt_store.specs.StoreValue.{StoreValue, entry_in, layered_in}
 pub use Rattle.vt_tasks.specs.Counts.{locations_in, one_if}
 pub use Rattle.vt_tasks.specs.TasksValue.{Tasks, called, changed_by, changed_called, replaced}
 pub use Rattle.vt_world.proofs.overlays_kept.inodes.InodesInOrder.{inodes_are_the_tree, inodes_have_their_objects, inodes_stay}

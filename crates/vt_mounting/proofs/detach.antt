@@ -5,6 +5,7 @@ pub mod PlainFound
 pub mod NodesFound
 pub mod Writers
 pub mod LayersShown
+pub mod LowerKept
 pub mod LookLemmas
 pub mod OwnInodesKept
 pub mod ChangedNumbers

@@ -73,7 +73,7 @@ pub use Rattle.vt_propagate.specs.Falling.{moved_by}
 pub use Rattle.vt_propagate.specs.Seen.{IsSeen}
 pub use Rattle.vt_request.specs.Requests.{access_of}
 pub use Rattle.vt_retype.specs.Retyping.{retyped}
-pub use Rattle.vt_store.specs.StoreValue.{StoreValue, lent_in, overlay_in}
+pub use Rattle.vt_store.specs.StoreValue.{StoreValue, layered_in, lent_in}
 pub use Rattle.vt_tasks.specs.TaskValue.{task_of}
 pub use Rattle.vt_tasks.specs.TasksValue.{Tasks, called, changed_called, replaced}
 pub use Rattle.vt_world.specs.Held.{CountsItsMounts, CountsItsUses, CountsWhatIsInIt, IsHeld, writes_of, writes_of_task}

@@ -5,17 +5,17 @@ ghost use Rattle.vt_spec.specs.Machine.Rightful.{node_allows};
 ghost use Rattle.vt_spec.specs.Machine.World.{mount_numbered};
 ghost use Rattle.vt_location.specs.Numbers.{filesystem_number, mount_number};
 ghost use Rattle.vt_mounting.specs.Detach.Looking.{is_seen, looks_of_value};
-ghost use Rattle.vt_store.specs.StoreValue.{overlay_in};
+ghost use Rattle.vt_store.specs.StoreValue.{layered_in};
 ghost use Rattle.vt_ns.specs.Mounters.{mounter_on};
 ghost use Rattle.vt_world.specs.Held.{IsHeld};
 ghost use Rattle.vt_world.specs.WorldValue.{world_of};
 
 use crate::world::World;
 use vt_cred::{Cred, Rights, allows};
+use vt_layered::Layered;
 use vt_location::{FilesystemId, Location, Mount, MountId, NamespaceId, NodeRef};
 use vt_looks::{Asked, Entered, Entry, Ground, Look};
 use vt_node::Node;
-use vt_overlay::Overlay;
 use vt_request::TaskName;
 use vt_spec::errors::Deny;
 use vt_store::Store;
@@ -43,8 +43,8 @@ impl World {
 
     // The overlay that a mount shows, if it shows one. Where there are none, the mount is not looked for.
     #[inline(always)]
-    pub(crate) fn overlay_on(&self, mount: MountId) -> Option<&Overlay>
-        ensures mounter { option_map (λ overlay. overlay.mounter) (option_copied result)
+    pub(crate) fn overlay_on(&self, mount: MountId) -> Option<&Layered>
+        ensures mounter { option_map (λ layered. layered.overlay.mounter) (option_copied result)
             ≡ mounter_on (world_of self.now) (mount_number mount) }
         ensures held { IsHeld self.now }
     {
@@ -238,9 +238,9 @@ fn grants(who: &Cred, object: Option<&Node>, wanted: Rights) -> bool
 // walks on plain trees stay small.
 #[inline(never)]
 fn mounter_grants(store: &Store, filesystem: FilesystemId, object: &Node, wanted: Rights) -> bool
-    ensures overlay { IfSome (overlay_in store.now filesystem.count) (λ overlay.
-        result ≡ node_allows overlay.mounter (right_bits wanted) (Some object.now)) }
-    ensures plain { overlay_in store.now filesystem.count ≡ None → result ≡ true }
+    ensures overlay { IfSome (layered_in store.now filesystem.count) (λ layered.
+        result ≡ node_allows layered.overlay.mounter (right_bits wanted) (Some object.now)) }
+    ensures plain { layered_in store.now filesystem.count ≡ None → result ≡ true }
 {
     match store.overlay(filesystem) {
         Some(overlay) => grants(overlay.mounter(), Some(object), wanted),

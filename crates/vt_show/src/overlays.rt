@@ -7,9 +7,9 @@ use serde_json::Value;
 use std::alloc::AllocError;
 use vt_check::draft::Draft;
 use vt_check::object::{List, Object};
+use vt_layered::Layered;
 use vt_location::{Mount, NodeRef};
 use vt_ns::World;
-use vt_overlay::Overlay;
 
 /// Where the directory of a layer is in its filesystem: where a mount of the directory would begin.
 fn layer_root(
@@ -45,14 +45,14 @@ fn push_overlay(
     world: &World,
     picture: &Picture,
     shown: &MountShown,
-    overlay: &Overlay,
+    overlay: &Layered,
 ) {
     text.push("\nOVERLAY overlay:");
     text.push_number(shown.filesystem as u64);
     text.push_char('\n');
     push_credentials(text, "mounter", overlay.mounter());
     let mut place: u64 = 0;
-    for layer in overlay.lowers() {
+    for layer in overlay.layers() {
         place = place.saturating_add(1);
         let mut told = Draft::new(world.alloc());
         let directory = layer.directory.node_ref();
@@ -86,11 +86,11 @@ fn push_overlay_object(
     world: &World,
     picture: &Picture,
     shown: &MountShown,
-    overlay: &Overlay,
+    overlay: &Layered,
 ) {
     let alloc = world.alloc();
     let mut layers = List::new(alloc);
-    for layer in overlay.lowers() {
+    for layer in overlay.layers() {
         let directory = layer.directory.node_ref();
         layers.push(layer_value(world, picture, &shown.mount, directory));
     }

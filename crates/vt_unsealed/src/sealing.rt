@@ -208,7 +208,7 @@ impl<'a> Members<'a, '_> {
         let Some(overlay) = self.world.store().overlay(overlay) else {
             return false;
         };
-        for layer in overlay.lowers() {
+        for layer in overlay.layers() {
             let directory = layer.directory.node_ref();
             if directory.filesystem == id && (at.is_none() || at == Some(directory)) {
                 return true;

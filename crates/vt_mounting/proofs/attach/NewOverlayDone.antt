@@ -69,7 +69,7 @@ module _ (value : WorldValue) (whole : IsHeld value) (task : Task ℕ) (graft : 
     task (ToMountOverlay (location_of graft.place) overlay flags))
     (lower : overlay.upper ≡ None) (workless : overlay.work ≡ None) (unmade : overlay.real ≡ (λ number. None))
     (entry : stored.OverlayEntry) (overlay_is : entry.overlay ≡ overlay_kept value.next overlay)
-    (count_is : entry.count ≡ value.next) (none : entry.mounts ≡ 0) (binds : graft.moves ≡ false)
+    (no_upper : entry.above ≡ None) (count_is : entry.count ≡ value.next) (none : entry.mounts ≡ 0) (binds : graft.moves ≡ false)
     (tree_is : map mount_of graft.tree.now
     ≡ new_mount (counted value.next) (overlay_of_store value.filesystems entry).root flags ∷ [])
     (parts_are : map mount_of graft.parts.now ≡ parts_of nat_eq (world_of value) (location_of graft.place))
@@ -129,7 +129,7 @@ module _ (value : WorldValue) (whole : IsHeld value) (task : Task ℕ) (graft : 
   granted = record { whole = whole; given = given; lower = lower }
 
   new_entry : IsEntryOf value overlay entry
-  new_entry = record { kept = overlay_is; count_is = count_is }
+  new_entry = record { kept = overlay_is; no_upper = no_upper; count_is = count_is }
 
   names : NamesLayers (world_of value) task (location_of graft.place) overlay
   names = names_layers granted
@@ -166,10 +166,16 @@ module _ (value : WorldValue) (whole : IsHeld value) (task : Task ℕ) (graft : 
         ∙ held_each (map layer_of entry.overlay.lowers) (shown value.filesystems)
 
     layers_held : LayersHeld value base entry
-    layers_held = record { whole = whole; are = shows.are; count_is = count_is; held = held_so }
+    layers_held = record {
+      whole = whole;
+      are = shows.are;
+      no_upper = no_upper;
+      count_is = count_is;
+      held = held_so;
+    }
 
     stays : overlay_of_store base entry ≡ overlay_of_store value.filesystems entry
-    stays = overlay_stays_when_held value.filesystems base entry shows.are (map layer_of entry.overlay.lowers) held_so
+    stays = overlay_stays_when_held value.filesystems base entry (map layer_of entry.overlay.lowers) held_so
 
     beside_it : IsBeside (record value { overlays = value.overlays ++ overlay_of_store base entry ∷ [] })
     beside_it = subst (λ one. IsBeside (record value { overlays = value.overlays ++ one ∷ [] })) (sym stays)

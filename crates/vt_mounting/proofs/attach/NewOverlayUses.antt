@@ -1,5 +1,5 @@
 -- The uses that the layers of a new overlay are, in the code's world with that overlay, whatever mounts show.
-use Rattle.std.proofs.Common.{◌≡◌, refl, sym, ap, subst, ◌∙◌, ⊎_elim, ℕ, suc, ◌+◌, nat_eq, eqb-true, Bool, true, false, cond, not, ◌||◌, List, [], ◌∷◌, ◌++◌, map, filter, flat_map, Option, Some, is_some, unwrap_or, arith, slice_get, ne_eqb, append-nil, append_assoc, map-id}
+use Rattle.std.proofs.Common.{◌≡◌, refl, sym, ap, subst, ◌∙◌, ⊎_elim, ℕ, suc, ◌+◌, nat_eq, eqb-true, Bool, true, false, cond, not, ◌||◌, List, [], ◌∷◌, ◌++◌, map, filter, flat_map, Option, Some, is_some, None, unwrap_or, arith, slice_get, ne_eqb, append-nil, append_assoc, map-id}
 use Rattle.vt_spec.proofs.Common.{Filesystem, Layer, World, common_steps, filesystem_numbered, folded, is_directory_node, layers_in, layers_of, located_in, map-append, map_alike, map_twice, named_in, no_filesystem, node_in, objects_of_overlay, of_overlay}
 use Rattle.vt_mounting.proofs.Common.{Among, AreLayers, AreThere, CountsItsMounts, Exchanges, FilesystemEntry, Filesystems, Inode, IsCounted, IsHeld, OverlaysHaveNoUpper, Shown, WorldValue, all_in_use, among-from_map, among_from_all, counted, counted_same, directory_is_there, entry_of, exchanged, inode_of, inode_uses, inodes_seen, is_inode, layer_count, layer_seen, list_all_from_among, no_entry, no_upper_is_in_any, number_numbered, overlay_of_store, overlay_seen, pinned_if, shown, times, times_append, uses_are_exchanged_beside_overlays, world_of, worlds_have_trees}
 use Rattle.vt_overlay.specs.declared.merge.layers.LayerRef.{LayerRef}
@@ -14,6 +14,7 @@ use Rattle.vt_mounting.proofs.attach.NewOverlay.{all_last}
 use Rattle.vt_mounting.proofs.attach.OverlaysNew.{with_layer}
 use Rattle.vt_mounting.proofs.attach.NewBase.{flat_before, found_before}
 use Rattle.vt_mounting.proofs.attach.NewFilesystems.{filesystem_counted}
+use Rattle.vt_mounting.proofs.detach.LowerKept.{lowers_are}
 
 -- the directory of a layer
 abbrev pub directory_in : Layer ℕ → Inode
@@ -121,12 +122,13 @@ held_by layers one = record one {
 pub record LayersHeld (value : WorldValue) (base : Filesystems) (entry : stored.OverlayEntry) : Type 0 where
   pub whole : IsHeld value
   pub are : AreLayers value.filesystems entry.overlay.lowers
+  pub no_upper : entry.above ≡ None
   pub count_is : entry.count ≡ value.next
   pub held : shown base ≡ map (held_by (map layer_of entry.overlay.lowers)) (shown value.filesystems)
 
 -- whose layers are kept there
 module _ {value : WorldValue} {base : Filesystems} {entry : stored.OverlayEntry} (it : LayersHeld value base entry) where
-  open it use {whole, are, count_is}
+  open it use {whole, are, no_upper, count_is}
 
   abbrev world : World ℕ
   world = world_of value
@@ -183,7 +185,7 @@ module _ {value : WorldValue} {base : Filesystems} {entry : stored.OverlayEntry}
       (worlds_have_trees world whole.in_world) (all_in_use world whole.in_world).inodes
       (no_upper_is_in_any (overlay_last value base entry) (counted was.count) no_upper_with_it)
       (subst (λ (list : List Inode). Exchanges list [] (counted was.count) world (overlay_last value base entry)) gained_are
-      (layers_are_gained world over {layers = map layer_seen entry.overlay.lowers} refl (λ number. refl)
+      (layers_are_gained world over {layers = map layer_seen entry.overlay.lowers} (lowers_are entry no_upper) (λ number. refl)
       (counted was.count)
       (apart_from_it was m)))
       (subst (λ f. IsCounted world f (inodes_seen was)) (sym (found_plain_one value whole was m))

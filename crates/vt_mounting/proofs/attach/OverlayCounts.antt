@@ -2,9 +2,11 @@
 use Rattle.std.proofs.Common.{◌≡◌, refl, sym, ap, subst, ◌∙◌, ℕ, ◌+◌, ◌-◌, ◌<◌, ◌≤◌, true, false, ◌&&◌, List, [], ◌∷◌, map, length, Option, Some, None, is_some, option_map, unwrap_or, take, get_or, arith, le-leb, leb-true, length-take-le}
 use Rattle.vt_spec.proofs.Common.{and_parts, common_steps, folded, list_all}
 use Rattle.vt_location.specs.Numbers.{most_counted}
-use Rattle.vt_mounting.proofs.Common.{OverlayValue, Overlays, StoreValue, among_from_list_all, counted, counted_test, entry_in, entry_kept, overlay_in, with_mounts, with_mounts_by, with_overlay_changed}
+use Rattle.vt_mounting.proofs.Common.{Overlays, StoreValue, among_from_list_all, counted, counted_test, entry_in, entry_kept, layered_in, with_mounts, with_mounts_by, with_overlay_changed}
 use Rattle.vt_location.specs.declared.mounts.Mount.{Mount}
 use Rattle.vt_store.specs.Counts.{mounts_in}
+use Rattle.vt_layered.specs.LayeredValue.{LayeredValue}
+use Rattle.vt_store.proofs.KeptObjects.{layered_entry}
 use Rattle.vt_store.specs.OverlaysValue.{OverlayEntry}
 use Rattle.vt_mounting.specs.Attach.Room.{merged_has_room}
 use Rattle.vt_mounting.specs.Detach.Stored.{merged_of}
@@ -33,11 +35,11 @@ none_held count (entry ∷ rest) none = grind (arith, common_steps, none_held co
 
 module _ (store : StoreValue) (count : ℕ) where
   -- whether a filesystem is an overlay
-  pub overlay_there : (found : Option OverlayValue) → found ≡ overlay_in store count
+  pub overlay_there : (found : Option LayeredValue) → found ≡ layered_in store count
       → is_some found ≡ is_some (entry_in store count)
   overlay_there found is = ap is_some is ∙ by (entry_in store count)
     where
-      by : (o : Option OverlayEntry) → is_some (option_map (λ (entry : OverlayEntry). entry.overlay) o) ≡ is_some o
+      by : (o : Option OverlayEntry) → is_some (option_map layered_entry o) ≡ is_some o
       by None = refl
       by (Some entry) = refl
 

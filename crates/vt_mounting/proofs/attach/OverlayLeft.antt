@@ -1,7 +1,7 @@
 -- What the permit that mounts an overlay leaves: the plain filesystems that are kept once the layers are held, the
 -- overlay that these show, and a mount of it, but for the order of the numbers beside trees.
 use Rattle.std.proofs.Common.{◌≡◌, refl, sym, ap, subst, ◌∙◌, ℕ, nat_eq, true, false, ◌||◌, List, [], ◌∷◌, ◌++◌, map, flat_map, length, Some, None, is_some, All}
-use Rattle.vt_spec.proofs.Common.{Filesystem, Fresh, Location, MergedInode, MountFlags, Overlay, SameFiles, SameFilesystem, SameWorlds, Task, ToMountOverlay, Tree, World, attach, evens, evens-distinct, inode_count, is_among, length_permutation, list_all, list_any, list_any-IsPermutation, merged_inodes, merged_objects, named_in, new_mount, odds, open_layer, overlay_filesystem, same_Some, served-distinct, shown_layers, targets_in, with_new_filesystem}
+use Rattle.vt_spec.proofs.Common.{FileTree, Filesystem, Fresh, Location, MergedInode, MountFlags, Overlay, SameFiles, SameFilesystem, SameWorlds, Task, ToMountOverlay, Tree, World, attach, evens, evens-distinct, inode_count, is_among, length_permutation, list_all, list_any, list_any-IsPermutation, merged_inodes, merged_objects, named_in, new_mount, odds, open_layer, overlay_filesystem, served-distinct, shown_layers, targets_in, with_new_filesystem}
 use Rattle.vt_spec.specs.Machine.Merging.{tree_of}
 use Rattle.vt_spec.specs.Machine.Mounts as meant
 use Rattle.vt_mounting.proofs.Common.{AreLayers, Filesystems, Inode, IsGivenToTask, IsHeld, IsShownAlike, OverlayValue, ShowsLayer, ShowsLayers, WorldValue, alike_from_same, all_from_among, counted, filesystems_seen, found_by_number, found_same, has_only_named, inodes_are_the_tree, inodes_have_their_objects, inodes_stay, layer_seen, overlay_of_store, overlay_seen, overlays_seen, same_numbers_are_permuted, sameness_is_an_equivalence, shown, with_objects, world_of, woven}
@@ -17,12 +17,12 @@ use Rattle.vt_laws_trees.proofs.runs.Each.{each_append}
 use Rattle.vt_laws_trees.proofs.runs.Permuted.{IsPermutation-flat_map, list_all-IsPermutation}
 use Rattle.vt_overlay.specs.declared.merge.layers.LayerRef.{LayerRef}
 use Rattle.vt_overlay.specs.MergedTree as Kept
-use Rattle.vt_store.proofs.OverlaysAlike.{overlays_stay_with_layers}
+use Rattle.vt_layered.proofs.StayingKinds.{layered_stay}
 use Rattle.vt_store.specs.Laws.{IsSameLayer}
 use Rattle.vt_store.specs.OverlaysValue as stored
-use Rattle.vt_store.specs.StoreValue as store
 use Rattle.vt_mounting.specs.Detach.Events.{layer_kept, left_by, overlay_kept, supply_of}
 use Rattle.vt_mounting.specs.Detach.Stored.{layer_of}
+use Rattle.vt_mounting.proofs.detach.LowerKept as low
 use Rattle.vt_mounting.proofs.detach.OverlayGranted.{NamesLayers, kept_layers, lowers_seen, overlay_names}
 use Rattle.vt_mounting.proofs.attach.NewOverlaySame.{all_same_when_held, same_with_layers_held}
 use Rattle.vt_mounting.proofs.attach.NewOverlayUses.{held_by, overlay_last}
@@ -59,7 +59,7 @@ named_same a b same =
         (flat_map (λ directory. targets_in ((same.files.tree i).node directory)) b.files.numbers))
 
 -- An overlay is shown as it was, once its layers are held.
-module _ (old base : Filesystems) (entry : stored.OverlayEntry) (are : AreLayers old entry.overlay.lowers)
+module _ (old base : Filesystems) (entry : stored.OverlayEntry)
     (layers : List Inode) (held : shown base ≡ map (held_by layers) (shown old)) where
   same_layer : (layer : LayerRef) → IsSameLayer old base layer
   same_layer layer =
@@ -74,15 +74,11 @@ module _ (old base : Filesystems) (entry : stored.OverlayEntry) (are : AreLayers
             ∙ ap (λ (f : Filesystem ℕ). length f.files.numbers) (found_by_number old count);
       }
 
-  filesystem_stays : store.overlay_filesystem base entry ≡ store.overlay_filesystem old entry
-  filesystem_stays = overlays_stay_with_layers old base entry are
-      (all_from_among (IsSameLayer old base) entry.overlay.lowers (λ layer m. same_layer layer))
-
   shown_when_held : IsShownAlike old base entry.overlay
-  shown_when_held = record {
-    tree = ap (λ (f : Filesystem ℕ). f.files.tree) filesystem_stays;
-    real = ap (λ (o : Overlay ℕ). o.real) (same_Some _ _ (ap (λ (f : Filesystem ℕ). f.overlay) filesystem_stays));
-  }
+  shown_when_held =
+      let stays = layered_stay old base entry.overlay None
+      (all_from_among (IsSameLayer old base) entry.overlay.lowers (λ layer m. same_layer layer)) in
+      record { tree = ap (λ (f : FileTree ℕ). f.tree) stays.files; real = stays.objects }
 
   pub overlay_stays_when_held : overlay_of_store base entry ≡ overlay_of_store old entry
   overlay_stays_when_held = λ i. record (overlay_of_store old entry) {
@@ -101,6 +97,7 @@ pub record IsOverlayGiven (value : WorldValue) (task : Task ℕ) (place : Locati
 -- and this is its entry
 pub record IsEntryOf (value : WorldValue) (overlay : Overlay ℕ) (entry : stored.OverlayEntry) : Type 0 where
   pub kept : entry.overlay ≡ overlay_kept value.next overlay
+  pub no_upper : entry.above ≡ None
   pub count_is : entry.count ≡ value.next
 
 module _ {value : WorldValue} {task : Task ℕ} {place : Location ℕ} {overlay : Overlay ℕ} {flags : MountFlags}
@@ -138,7 +135,7 @@ module _ {value : WorldValue} {task : Task ℕ} {place : Location ℕ} {overlay 
       (ap is_some names_layers.to.own)
 
   module _ {entry : stored.OverlayEntry} (is_entry : IsEntryOf value overlay entry) where
-    open is_entry use {kept, count_is}
+    open is_entry use {kept, no_upper, count_is}
 
     lowers_are : map layer_kept overlay.lowers ≡ entry.overlay.lowers
     lowers_are = sym (ap (λ (o : OverlayValue). o.lowers) kept)
@@ -183,6 +180,7 @@ module _ {value : WorldValue} {task : Task ℕ} {place : Location ℕ} {overlay 
             (inodes_kept value.filesystems entry.overlay)
             (made_as_shown.files.tree ∙ sym (inodes_are_the_tree value.filesystems entry.overlay));
         overlay = made_as_shown.overlay ∙ (λ i. Some (record (with_objects value.filesystems entry.overlay) {
+          lowers = sym (low.lowers_are entry no_upper) i;
           real = sym (inodes_have_their_objects value.filesystems entry.overlay shows_layers.are) i;
         }));
       }
@@ -200,7 +198,7 @@ module _ {value : WorldValue} {task : Task ℕ} {place : Location ℕ} {overlay 
 
         over_same : SameFilesystem made over
         over_same = subst (λ one. SameFilesystem made (overlay_seen one))
-            (sym (overlay_stays_when_held value.filesystems base entry shows_layers.are (map layer_of entry.overlay.lowers)
+            (sym (overlay_stays_when_held value.filesystems base entry (map layer_of entry.overlay.lowers)
             held)) made_same
 
         -- each of its inodes has a name

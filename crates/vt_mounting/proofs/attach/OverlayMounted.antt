@@ -1,7 +1,7 @@
 -- The event that mounts an overlay, as a store is left by it: mount(2), and the kernel's overlayfs document.
-use Rattle.std.proofs.Common.{◌≡◌, ◌<◌, ◌*◌, ◌+◌, ◌∙◌, sym, ap, subst, ℕ, nat_eq, true, List, [], ◌∷◌, ◌++◌, ◌%◌, ◌==◌, map, length, None, false}
+use Rattle.std.proofs.Common.{◌≡◌, ◌<◌, ◌*◌, ◌+◌, ◌∙◌, sym, ap, subst, ⊎_elim, ℕ, nat_eq, true, List, [], ◌∷◌, ◌++◌, ◌%◌, ◌==◌, map, length, None, false}
 use Rattle.vt_spec.proofs.Common.{Layer, MountFlags, Overlay, SameWorlds, Task, ToMountOverlay, list_all, map-append, map_alike, map_twice, new_mount, parts_of}
-use Rattle.vt_mounting.proofs.Common.{AreLayers, Filesystems, Grouping, IsGivenToTask, IsHeld, MountEntry, Overlays, StoreValue, WorldValue, are_ascending, counted, layer_seen, location_of, mount_of, mounts_in, overlay_of_store, overlays_of_store, shown, with_store, world_of}
+use Rattle.vt_mounting.proofs.Common.{Among, AreLayers, Filesystems, Grouping, IsGivenToTask, IsHeld, MountEntry, Overlays, StoreValue, WorldValue, are_ascending, counted, layer_seen, location_of, mount_of, mounts_in, overlay_of_store, overlays_of_store, shown, with_store, world_of}
 use Rattle.vt_propagate.specs.declared.copying.Counts.{Counts}
 use Rattle.vt_propagate.specs.declared.copying.Graft.{Graft}
 use Rattle.vt_store.specs.OverlaysValue as stored
@@ -10,17 +10,22 @@ use Rattle.vt_mounting.specs.Detach.Stored.{OverlaysStay, kept, layer_of, merged
 use Rattle.vt_mounting.specs.Detach.Uses.{kept_with, merged_seen}
 use Rattle.vt_mounting.specs.Attach.Grafted.{IsGrafted}
 use Rattle.vt_mounting.specs.Attach.Overlaid.{IsWithOverlay}
+use Rattle.vt_mounting.proofs.detach.LowerKept.{held_are, lowers_are}
+use Rattle.vt_mounting.proofs.detach.StoreShown.{kept_lower}
 use Rattle.vt_mounting.proofs.attach.NewOverlayDone.{new_overlay_is_done}
 use Rattle.vt_mounting.proofs.attach.NewOverlayUses.{held_by, held_each}
 use Rattle.vt_mounting.proofs.attach.OverlayStored.{overlay_stored}
 use Rattle.vt_mounting.proofs.attach.OverlaysNew.{layers_more}
 
 -- the overlays of a store, as they are counted
-merged_are : (plain : Filesystems) (overlays : Overlays)
+pub merged_are : (plain : Filesystems) (overlays : Overlays)
+    → ((entry : stored.OverlayEntry) → Among entry overlays → entry.above ≡ None)
     → map merged_of overlays ≡ map merged_seen (map (overlay_of_store plain) overlays)
-merged_are plain overlays = map_alike merged_of (λ entry. merged_seen (overlay_of_store plain entry)) overlays
+merged_are plain overlays lower = map_alike merged_of (λ entry. merged_seen (overlay_of_store plain entry)) overlays
     (λ entry m. ap (λ layers. record (merged_of entry) { layers = layers })
-    (sym (map_twice (λ (layer : Layer ℕ). (layer.filesystem, layer.directory)) layer_seen entry.overlay.lowers)))
+    (ap (map layer_of) (held_are entry (lower entry m))
+    ∙ sym (map_twice (λ (layer : Layer ℕ). (layer.filesystem, layer.directory)) layer_seen entry.overlay.lowers)
+    ∙ ap (map (λ (layer : Layer ℕ). (layer.filesystem, layer.directory))) (sym (lowers_are entry (lower entry m)))))
     ∙ sym (map_twice merged_seen (overlay_of_store plain) overlays)
 
 module _ (base : WorldValue) (old held new : StoreValue) (whole : IsHeld (with_store old base)) (task : Task ℕ)
@@ -29,7 +34,8 @@ module _ (base : WorldValue) (old held new : StoreValue) (whole : IsHeld (with_s
     (world_of (with_store old base)) task (ToMountOverlay (location_of graft.place) overlay flags))
     (lower : overlay.upper ≡ None) (workless : overlay.work ≡ None) (unmade : overlay.real ≡ (λ number. None))
     (entry : stored.OverlayEntry) (overlay_is : entry.overlay ≡ overlay_kept base.next overlay)
-    (count_is : entry.count ≡ base.next) (none : entry.mounts ≡ 0) (are : AreLayers old.plain entry.overlay.lowers)
+    (no_upper : entry.above ≡ None) (count_is : entry.count ≡ base.next) (none : entry.mounts ≡ 0)
+    (are : AreLayers old.plain entry.overlay.lowers)
     (small : base.next < 18446744073709551616) (binds : graft.moves ≡ false) (tree_is : map mount_of graft.tree.now
     ≡ new_mount (counted base.next) (overlay_of_store old.plain entry).root flags ∷ [])
     (parts_are : map mount_of graft.parts.now
@@ -44,7 +50,9 @@ module _ (base : WorldValue) (old held new : StoreValue) (whole : IsHeld (with_s
   merged_held : map merged_of held.overlays
       ≡ map merged_seen (overlays_of_store old ++ overlay_of_store held.plain entry ∷ [])
   merged_held = ap (map merged_of) with_overlay.overlays ∙ map-append merged_of old.overlays (entry ∷ [])
-      ∙ (λ i. merged_are old.plain old.overlays i ++ merged_are held.plain (entry ∷ []) i)
+      ∙ (λ i. merged_are old.plain old.overlays (kept_lower base old whole) i
+      ++ merged_are held.plain (entry ∷ []) (λ one m. ⊎_elim (λ same. ap (λ (e : stored.OverlayEntry). e.above) same
+      ∙ no_upper) (λ later. absurd later) m) i)
       ∙ sym (map-append merged_seen (overlays_of_store old) (overlay_of_store held.plain entry ∷ []))
 
   layers_held : shown held.plain ≡ map (held_by (map layer_of entry.overlay.lowers)) (shown old.plain)
@@ -62,10 +70,10 @@ module _ (base : WorldValue) (old held new : StoreValue) (whole : IsHeld (with_s
       let grafted = subst (λ overlays. IsGrafted graft counts (kept_with base.mounts held.plain overlays) base.groups
       (kept mounts new) groups) merged_held is in
       let done = new_overlay_is_done value whole task graft counts overlay flags given lower workless unmade entry overlay_is
-      count_is none binds tree_is parts_are first step ascending odd held.plain with_overlay.layers small mounts
+      no_upper count_is none binds tree_is parts_are first step ascending odd held.plain with_overlay.layers small mounts
       new.plain (map merged_of new.overlays) grafted grows in
       let then = record base { mounts = mounts; groups = groups; next = next } in
-      let stored_so = overlay_stored base then old new entry held.plain whole are count_is layers_held stay done.0 done.2 in (
+      let stored_so = overlay_stored base then old new entry held.plain whole count_is layers_held stay done.0 done.2 in (
         subst IsHeld stored_so done.0,
         subst (λ (v : WorldValue). SameWorlds
             (left_by value task (ToMountOverlay (location_of graft.place) overlay flags)) (world_of v)) stored_so done.1,

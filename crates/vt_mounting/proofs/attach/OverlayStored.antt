@@ -1,12 +1,11 @@
 -- After the mount of an overlay a store shows its overlays as they were, and the new one as its layers showed it before.
 use Rattle.std.proofs.Common.{◌≡◌, refl, sym, ap, subst, ◌∙◌, ⊎_elim, ℕ, nat_eq, nat_lt, ltb-true, lt-ltb, true, false, ◌||◌, List, [], ◌∷◌, ◌++◌, filter, length, map, Option, None, arith, All, ne_eqb}
-use Rattle.vt_spec.proofs.Common.{Filesystem, Real, SameFilesystems, and_parts, any_pair, common_steps, is_overlay, length_permutation, list_all, list_any, map-append, map_alike, of_overlay}
+use Rattle.vt_spec.proofs.Common.{FileTree, Filesystem, SameFilesystems, and_parts, any_pair, common_steps, is_overlay, length_permutation, list_all, list_any, map-append, map_alike, of_overlay}
 use Rattle.vt_mounting.proofs.Common.{Among, AreLayers, Filesystems, IsHeld, IsShownAlike, OverlayEntry, OverlayValue, StoreValue, WorldValue, all_from_among, among-append, among-map, are_rising, counted, filesystems_seen, found_by_number, found_same, inodes_stay, list_all_from_among, overlay_of_store, overlay_seen, overlays_of_store, overlays_seen, shown, with_store, world_of, woven, woven_lists_are_failing}
 use Rattle.vt_overlay.specs.declared.merge.layers.LayerRef.{LayerRef}
 use Rattle.vt_store.specs.Laws.{IsSameLayer}
-use Rattle.vt_store.proofs.OverlaysAlike.{overlays_stay_with_layers}
+use Rattle.vt_layered.proofs.StayingKinds.{layered_stay}
 use Rattle.vt_store.specs.OverlaysValue as stored
-use Rattle.vt_store.specs.StoreValue.{overlay_filesystem}
 use Rattle.vt_mounting.specs.Detach.Stored.{OverlaysStay, layer_of, merged_of}
 use Rattle.vt_mounting.specs.Detach.Uses.{overlays_kept}
 use Rattle.vt_mounting.proofs.detach.LayersShown.{layers_shown_well}
@@ -40,25 +39,18 @@ same_layer_twice : {old middle new : Filesystems} {layer : LayerRef} → IsSameL
 same_layer_twice first second =
     record { tree = second.tree ∙ first.tree; numbers = second.numbers ∙ first.numbers }
 
-shown_still : (old new : Filesystems) (entry : stored.OverlayEntry) → AreLayers old entry.overlay.lowers
+shown_still : (old new : Filesystems) (entry : stored.OverlayEntry)
     → ((layer : LayerRef) → IsSameLayer old new layer) → overlay_of_store old entry ≡ overlay_of_store new entry
-shown_still old new entry are same = λ i. record (overlay_of_store old entry) {
+shown_still old new entry same = λ i. record (overlay_of_store old entry) {
   root = (sym alike.tree i).root;
   inodes = sym (inodes_stay old new entry.overlay alike) i;
 }
   where
-    still : overlay_filesystem new entry ≡ overlay_filesystem old entry
-    still = overlays_stay_with_layers old new entry are
-        (all_from_among (IsSameLayer old new) entry.overlay.lowers (λ layer m. same layer))
-
     alike : IsShownAlike old new entry.overlay
-    alike = record {
-      tree = ap (λ (f : Filesystem ℕ). f.files.tree) still;
-      real = ap objects still;
-    }
-      where
-        objects : Filesystem ℕ → ℕ → Option (Real ℕ)
-        objects f = of_overlay (λ number. None) (λ overlay. overlay.real) f
+    alike =
+        let stays = layered_stay old new entry.overlay None
+        (all_from_among (IsSameLayer old new) entry.overlay.lowers (λ layer m. same layer)) in
+        record { tree = ap (λ (f : FileTree ℕ). f.tree) stays.files; real = stays.objects }
 
 -- of worlds that are the same but for these, plain filesystems are
 plain_same : (ones others : List (Filesystem ℕ)) → SameFilesystems ones others
@@ -84,7 +76,7 @@ rising_apart (f ∷ rest) e =
 
 -- A store to whose overlays one came, whose layers are held in these plain filesystems, before mounts of it were attached
 module _ (base new_base : WorldValue) (old new : StoreValue) (entry : stored.OverlayEntry) (plain : Filesystems)
-    (held : IsHeld (with_store old base)) (are : AreLayers old.plain entry.overlay.lowers)
+    (held : IsHeld (with_store old base))
     (count_is : entry.count ≡ base.next)
     (layers : shown plain ≡ map (held_by (map layer_of entry.overlay.lowers)) (shown old.plain))
     (stay : OverlaysStay (old.overlays ++ entry ∷ []) new.overlays) where
@@ -106,7 +98,7 @@ module _ (base new_base : WorldValue) (old new : StoreValue) (entry : stored.Ove
   held_same = all_same_when_held (map layer_of entry.overlay.lowers) old.plain plain layers
 
   new_is_shown : overlay_of_store old.plain entry ≡ overlay_of_store plain entry
-  new_is_shown = shown_still old.plain plain entry are (same_layer old.plain plain held_same)
+  new_is_shown = shown_still old.plain plain entry (same_layer old.plain plain held_same)
 
   all_over : map (overlay_of_store old.plain) (old.overlays ++ entry ∷ [])
       ≡ overlays_of_store old ++ overlay_of_store old.plain entry ∷ []
@@ -131,24 +123,13 @@ module _ (base new_base : WorldValue) (old new : StoreValue) (entry : stored.Ove
       ((λ i. overlays_of_store old ++ sym new_is_shown i ∷ []) ∙ sym all_over)
       ∙ kept_by old.plain left.0 (old.overlays ++ entry ∷ []) new.overlays left.1 apart
 
-  -- each stood on layers before
-  stood : (one : stored.OverlayEntry) → Among one new.overlays → AreLayers old.plain one.overlay.lowers
-  stood one m =
-      let was = were_there (old.overlays ++ entry ∷ []) new.overlays
-      (left_still (old.overlays ++ entry ∷ []) new.overlays stay) one m in
-      subst (λ (overlay : OverlayValue). AreLayers old.plain overlay.lowers) was.3 (⊎_elim
-      (λ among. (layers_shown_well held (overlay_of_store old.plain was.0)
-      (among-map (overlay_of_store old.plain) old.overlays was.0 among) was.0.overlay.lowers refl).0)
-      (λ last. ⊎_elim (λ same. subst (λ (e : stored.OverlayEntry). AreLayers old.plain e.overlay.lowers) (sym same) are)
-      (λ none. absurd none) last) (among-append old.overlays (entry ∷ []) was.0 was.1))
-
   -- then the world is the one that holds the store
   pub overlay_stored : IsHeld value_mounted → SameFilesystems (woven (filesystems_seen plain)
       (overlays_seen (overlays_of_store old ++ overlay_of_store plain entry ∷ []))) (world_of value_mounted).filesystems
       → value_mounted ≡ with_store new new_base
   overlay_stored there same = ap (λ overlays. record new_base { filesystems = new.plain; overlays = overlays })
       (listed ∙ map_alike (overlay_of_store old.plain) (overlay_of_store new.plain) new.overlays (λ one m.
-      shown_still old.plain new.plain one (stood one m) (λ layer.
+      shown_still old.plain new.plain one (λ layer.
       same_layer_twice (same_layer old.plain plain held_same layer) (same_layer plain new.plain plain_then layer))))
     where
       merged_before : All (λ filesystem. is_overlay filesystem ≡ true)

@@ -1,13 +1,15 @@
 -- A new overlay in a store: its layers are in use, and it comes after all others.
 use Rattle.std.proofs.Common.{◌≡◌, ◌≤◌, refl, ap, ◌∙◌, ℕ, ◌+◌, nat_eq, eq-eqb, nat_lt, Bool, true, false, cond, not, ◌&&◌, List, [], ◌∷◌, ◌++◌, length, map, Option, Some, None, option_map, unwrap_or, arith, nat_le, le-leb, leb-true, ltb-true, ne_eqb}
 use Rattle.vt_spec.proofs.Common.{and_parts, common_steps, folded, list_all, map_alike, pinned}
-use Rattle.vt_mounting.proofs.Common.{Inode, Overlays, Shown, StoreValue, among_from_list_all, counted, counted_test, entry_kept, list_all_from_among, lowers_in, pinned_if, shown_with, with_layers, without_overlay}
+use Rattle.vt_mounting.proofs.Common.{Inode, Overlays, Shown, StoreValue, among_from_list_all, counted, counted_test, entry_kept, list_all_from_among, held_in, pinned_if, shown_with, with_layers, without_overlay}
 use Rattle.vt_laws_mounts.proofs.letting_go.Lists.{filter_here, filter_skip}
 use Rattle.vt_location.specs.declared.locations.Location.{Location}
 use Rattle.vt_location.specs.declared.mounts.Mount.{Mount}
 use Rattle.vt_overlay.specs.declared.merge.layers.LayerRef.{LayerRef}
 use Rattle.vt_store.specs.LayersHeld as Stored
-use Rattle.vt_store.specs.OverlaysValue.{OverlayEntry}
+use Rattle.vt_layered.specs.LayeredValue.{held_layers}
+use Rattle.vt_store.proofs.KeptObjects.{layered_entry}
+use Rattle.vt_store.specs.OverlaysValue.{OverlayEntry, layers_held}
 use Rattle.vt_mounting.specs.Detach.Stored.{layer_of}
 use Rattle.vt_mounting.specs.Detach.Uses.{Merged, inode_of, merged_at, mounted_in, mounts_shown, pinned_in}
 use Rattle.vt_mounting.proofs.detach.Shown.{changed_inodes, counted_eq_back}
@@ -136,9 +138,9 @@ found_new (first ∷ rest) entry above =
 
 pub lowers_new : (store : StoreValue) (entry : OverlayEntry)
     → list_all (λ (other : OverlayEntry). nat_lt other.count entry.count) store.overlays ≡ true
-    → lowers_in (record store { overlays = store.overlays ++ entry ∷ [] }) entry.count ≡ entry.overlay.lowers
+    → held_in (record store { overlays = store.overlays ++ entry ∷ [] }) entry.count ≡ layers_held entry
 lowers_new store entry above =
-    ap (λ o. unwrap_or (option_map (λ overlay. overlay.lowers) (option_map (λ (one : OverlayEntry). one.overlay) o)) [])
+    ap (λ o. unwrap_or (option_map (λ layered. held_layers layered.overlay layered.above) (option_map layered_entry o)) [])
     (found_new store.overlays entry above)
 
 -- and without it the others are left

@@ -72,35 +72,38 @@ module _ {value : WorldValue} (held : IsHeld value) (lowers : List LayerRef)
     all_from_among (ShowsLayer (world_of value) value.filesystems) lowers shows_it,
   )
 
--- an overlay of the value, whose layers are these
-module _ {value : WorldValue} (held : IsHeld value) (entry : OverlayEntry) (m : Among entry value.overlays)
-    (lowers : List LayerRef) (same : entry.lowers ≡ map layer_seen lowers) where
-  abbrev world : World ℕ
-  world = world_of value
-
+-- an overlay of the value
+module _ {value : WorldValue} (held : IsHeld value) (entry : OverlayEntry) (m : Among entry value.overlays) where
   among : Among (overlay_seen entry) (world_of value).filesystems
   among = (overlay_among value held.overlays (overlay_seen entry) (among-map overlay_seen value.overlays entry m)).0
 
-  all_plain : list_all (is_plain_layer nat_eq (world_of value)) (map layer_seen lowers) ≡ true
-  all_plain = subst (λ layers. list_all (is_plain_layer nat_eq (world_of value)) layers ≡ true) same
-      (among_from_list_all
-      (of_overlay true (λ overlay. list_all (is_plain_layer nat_eq (world_of value)) (layers_of overlay)))
-      (world_of value).filesystems held.in_world.overlays.plain_layers (overlay_seen entry) among)
-
-  -- they are layers, which the world shows
-  pub layers_shown_well : AreLayers value.filesystems lowers × All (ShowsLayer (world_of value) value.filesystems) lowers
-  layers_shown_well = plain_layers_shown held lowers all_plain
-
-  fits : (not (is_empty_list entry.lowers) ≡ true) × (nat_le (length entry.lowers) most_lowers ≡ true)
+  -- it has a layer, and not too many
+  pub fits : (not (is_empty_list entry.lowers) ≡ true) × (nat_le (length entry.lowers) most_lowers ≡ true)
   fits = and_parts (not (is_empty_list entry.lowers)) (nat_le (length entry.lowers) most_lowers)
       (and_parts (not (is_empty_list entry.lowers) && nat_le (length entry.lowers) most_lowers) true
       (among_from_list_all (of_overlay true has_fit_layers) (world_of value).filesystems
       held.in_world.overlays.fit_layers
       (overlay_seen entry) among)).0
 
+-- whose layers are these
+module _ {value : WorldValue} (held : IsHeld value) (entry : OverlayEntry) (m : Among entry value.overlays)
+    (lowers : List LayerRef) (same : entry.lowers ≡ map layer_seen lowers) where
+  abbrev world : World ℕ
+  world = world_of value
+
+  all_plain : list_all (is_plain_layer nat_eq (world_of value)) (map layer_seen lowers) ≡ true
+  all_plain = subst (λ layers. list_all (is_plain_layer nat_eq (world_of value)) layers ≡ true) same
+      (among_from_list_all
+      (of_overlay true (λ overlay. list_all (is_plain_layer nat_eq (world_of value)) (layers_of overlay)))
+      (world_of value).filesystems held.in_world.overlays.plain_layers (overlay_seen entry) (among held entry m))
+
+  -- they are layers, which the world shows
+  pub layers_shown_well : AreLayers value.filesystems lowers × All (ShowsLayer (world_of value) value.filesystems) lowers
+  layers_shown_well = plain_layers_shown held lowers all_plain
+
   -- one at least, and not too many
   pub layers_number : (0 < length lowers) × (length lowers ≤ most_lowers)
   layers_number =
-      let most = leb-true (length entry.lowers) most_lowers fits.1 in
+      let most = leb-true (length entry.lowers) most_lowers (fits held entry m).1 in
       let as_many = ap length same ∙ length-map lowers layer_seen in
-      (some_there lowers (ap (λ layers. not (is_empty_list layers)) (sym same) ∙ fits.0), omega (arith, most, as_many))
+      (some_there lowers (ap (λ layers. not (is_empty_list layers)) (sym same) ∙ (fits held entry m).0), omega (arith, most, as_many))

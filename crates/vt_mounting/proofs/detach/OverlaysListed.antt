@@ -1,11 +1,12 @@
 -- The overlays of a store under their counts: what is left of them, one event after the other.
 use Rattle.std.proofs.Common.{◌≡◌, refl, sym, ap, subst, ◌∙◌, inl, inr, ℕ, nat_eq, ◌-◌, eq-eqb, Bool, true, false, cond, not, ◌&&◌, List, [], ◌∷◌, map, filter, Option, Some, None, option_map, arith}
 use Rattle.vt_spec.proofs.Common.{Filesystem, Permit, TaskName, any_pair, common_steps, cons_option, is_overlay, list_any, nat_eq_turned, or_parts, pair-filter}
-use Rattle.vt_mounting.proofs.Common.{Among, Filesystems, IsHeld, OverlayValue, Overlays, StoreValue, WorldValue, among-from_filter, among-from_map, among-map, counted, entry_in, filter-map, filter_all, filter_twice, none_among, overlay_of_store, overlay_seen, overlays_of_store, overlays_seen, with_mounts, with_mounts_by, with_overlay_changed, with_store, without_overlay, world_of}
+use Rattle.vt_mounting.proofs.Common.{Among, Filesystems, IsHeld, Overlays, StoreValue, WorldValue, among-from_filter, among-from_map, among-map, counted, entry_in, filter-map, filter_all, filter_twice, none_among, overlay_of_store, overlay_seen, overlays_of_store, overlays_seen, with_mounts, with_mounts_by, with_overlay_changed, with_store, without_overlay, world_of}
+use Rattle.vt_layered.specs.LayeredValue.{LayeredValue}
 use Rattle.vt_store.specs.OverlaysValue.{OverlayEntry}
 use Rattle.vt_world.specs.WorldValue as worlds
 use Rattle.vt_mounting.specs.Detach.Events.{Permits}
-use Rattle.vt_mounting.specs.Detach.Stored.{OverlaysLeft, OverlaysStay, merged_of, under_counts}
+use Rattle.vt_mounting.specs.Detach.Stored.{OverlaysLeft, OverlaysStay, layered_kept, merged_of, under_counts}
 use Rattle.vt_mounting.specs.Detach.Uses.{Merged, merged_at, overlays_kept}
 use Rattle.vt_mounting.proofs.detach.Overlaid.{overlays_are}
 use Rattle.vt_mounting.proofs.detach.Staying.{IsDone}
@@ -44,8 +45,8 @@ counted_stay_in store count change = by (entry_in store count)
 pub left_without : (count : ℕ) (overlays : Overlays) → OverlaysLeft overlays (without_overlay count overlays)
 left_without count overlays = (
   λ one. not (nat_eq count one.0),
-  sym (filter-map (λ (one : ℕ × OverlayValue). not (nat_eq count one.0))
-      (λ (entry : OverlayEntry). (entry.count, entry.overlay)) overlays (λ entry. refl)),
+  sym (filter-map (λ (one : ℕ × LayeredValue). not (nat_eq count one.0))
+      layered_kept overlays (λ entry. refl)),
 )
 
 -- a store with one mount less of an overlay, and one without it
@@ -69,15 +70,15 @@ left_removed count old {middle} new released removed =
 pub were_there : (old new : Overlays) → OverlaysLeft old new → (entry : OverlayEntry) → Among entry new
     → (was : OverlayEntry) × Among was old × (was.count ≡ entry.count) × (was.overlay ≡ entry.overlay)
 were_there old new left entry m =
-    let first = among-from_filter left.0 (under_counts old) (entry.count, entry.overlay)
-    (subst (Among (entry.count, entry.overlay)) left.1
-    (among-map (λ (one : OverlayEntry). (one.count, one.overlay)) new entry m)) in
-    let was = among-from_map (λ (one : OverlayEntry). (one.count, one.overlay)) old (entry.count, entry.overlay)
+    let first = among-from_filter left.0 (under_counts old) (layered_kept entry)
+    (subst (Among (layered_kept entry)) left.1
+    (among-map layered_kept new entry m)) in
+    let was = among-from_map layered_kept old (layered_kept entry)
     first.0 in (
       was.0,
       was.1,
-      sym (ap (λ (one : ℕ × OverlayValue). one.0) was.2),
-      sym (ap (λ (one : ℕ × OverlayValue). one.1) was.2),
+      sym (ap (λ (one : ℕ × LayeredValue). one.0) was.2),
+      sym (ap (λ (one : ℕ × LayeredValue). one.1.overlay) was.2),
     )
 
 -- What a world has of the overlays of a store
@@ -107,13 +108,13 @@ AreApart plain overlays = any_pair (λ (a b : Filesystem ℕ). nat_eq a.number b
     (overlays_seen (map (overlay_of_store plain) overlays)) ≡ false
 
 -- those that are left are what the store keeps, where each has a number of its own
-pub kept_by : (plain : Filesystems) (stays : ℕ × OverlayValue → Bool) (old new : Overlays)
+pub kept_by : (plain : Filesystems) (stays : ℕ × LayeredValue → Bool) (old new : Overlays)
     → under_counts new ≡ filter stays (under_counts old) → AreApart plain old
     → overlays_kept (map merged_of new) (map (overlay_of_store plain) old) ≡ map (overlay_of_store plain) new
 kept_by plain stays [] [] left apart = refl
 kept_by plain stays [] (entry ∷ new) left apart = absurd cc
 kept_by plain stays (first ∷ rest) new left apart =
-    by (kept_by plain stays rest) (stays (first.count, first.overlay)) refl
+    by (kept_by plain stays rest) (stays (layered_kept first)) refl
   where
     Later : Type 0
     Later = (news : Overlays) → under_counts news ≡ filter stays (under_counts rest) → AreApart plain rest
@@ -133,19 +134,20 @@ kept_by plain stays (first ∷ rest) new left apart =
         none_among (λ (b : Filesystem ℕ). nat_eq (counted first.count) b.number) (overlays_seen (map over rest)) parts.0
         (overlay_seen (over entry)) (among-map overlay_seen (map over rest) (over entry) (among-map over rest entry m))
 
-    stays_with : Later → (news : Overlays) → under_counts news ≡ (first.count, first.overlay) ∷ filter stays (under_counts rest)
+    stays_with : Later → (news : Overlays) → under_counts news ≡ layered_kept first ∷ filter stays (under_counts rest)
         → overlays_kept (map merged_of news) (over first ∷ map over rest) ≡ map over news
     stays_with later [] e = absurd cc
     stays_with later (entry ∷ more) e =
-        let heads : (entry.count, entry.overlay) ≡ (first.count, first.overlay) = cc in
+        let heads : layered_kept entry ≡ layered_kept first = cc in
         let tails : under_counts more ≡ filter stays (under_counts rest) = cc in
-        let count : first.count ≡ entry.count = sym (ap (λ (one : ℕ × OverlayValue). one.0) heads) in
-        let overlay : first.overlay ≡ entry.overlay = sym (ap (λ (one : ℕ × OverlayValue). one.1) heads) in
+        let count : first.count ≡ entry.count = sym (ap (λ (one : ℕ × LayeredValue). one.0) heads) in
+        let layered : (layered_kept first).1 ≡ (layered_kept entry).1 =
+        sym (ap (λ (one : ℕ × LayeredValue). one.1) heads) in
         ap (λ b. cons_option (counted_again (over first) (cond b (Some (merged_of entry))
         (merged_at (counted first.count) (map merged_of more))))
         (overlays_kept (map merged_of (entry ∷ more)) (map over rest)))
         (eq-eqb (counted first.count) (counted entry.count) (ap counted count))
-        ∙ (λ i. over (record entry { count = count i; overlay = overlay i })
+        ∙ (λ i. over (record entry { count = count i; overlay = (layered i).overlay; above = (layered i).above })
         ∷ (kept_less (merged_of entry) (map merged_of more) (map over rest) (λ one m.
         let was = among-from_map over rest one m in
         ap (λ (o : worlds.OverlayEntry). nat_eq o.number (counted entry.count)) was.2
@@ -161,13 +163,13 @@ kept_by plain stays (first ∷ rest) new left apart =
         let was = were_there rest new (stays, e) entry m in
         ap (λ n. nat_eq (counted first.count) (counted n)) (sym was.2) ∙ others was.0 was.1)) ∙ later new e parts.1
 
-    by : Later → (b : Bool) → stays (first.count, first.overlay) ≡ b
+    by : Later → (b : Bool) → stays (layered_kept first) ≡ b
         → overlays_kept (map merged_of new) (over first ∷ map over rest) ≡ map over new
     by later true e =
-        stays_with later new (left ∙ ap (λ b. cond b ((first.count, first.overlay) ∷ filter stays (under_counts rest))
+        stays_with later new (left ∙ ap (λ b. cond b (layered_kept first ∷ filter stays (under_counts rest))
         (filter stays (under_counts rest))) e)
     by later false e =
-        goes later (left ∙ ap (λ b. cond b ((first.count, first.overlay) ∷ filter stays (under_counts rest))
+        goes later (left ∙ ap (λ b. cond b (layered_kept first ∷ filter stays (under_counts rest))
         (filter stays (under_counts rest))) e)
 
 -- Those that are left of its overlays, as often as they are mounted, are those that the store keeps, as the old plain

@@ -8,13 +8,16 @@ use Rattle.vt_world.specs.OverlaysKept.Lending.{lent_on, object_lent}
 use Rattle.vt_fs.specs.FilesystemsValue.{node_seen}
 use Rattle.vt_overlay.specs.Merge.LayerValue.{layer_of}
 use Rattle.vt_overlay.specs.declared.merge.layers.LayerRef.{LayerRef}
-use Rattle.vt_overlay.specs.Alike.{lent_at, real_lent}
+use Rattle.vt_layered.specs.LayeredTree.{layered_lent}
+use Rattle.vt_overlay.specs.Alike.{lent_at}
+use Rattle.vt_store.proofs.KeptObjects.{layered_entry}
 use Rattle.vt_store.specs.OverlaysValue as stored
 use Rattle.vt_store.specs.StoreValue.{lent_in}
 use Rattle.vt_store.specs.StoreValue as stores
 use Rattle.vt_world.specs.Lent.{count_of, lent_by, lent_in_layers, lent_of_world}
 use Rattle.vt_mounting.proofs.detach.LayersShown.{layers_shown_well}
-use Rattle.vt_mounting.proofs.detach.StoreShown.{overlay_found, plain_found}
+use Rattle.vt_mounting.proofs.detach.LowerKept.{lent_are, lowers_are}
+use Rattle.vt_mounting.proofs.detach.StoreShown.{kept_lower, overlay_found, plain_found}
 
 count_back : (count : ℕ) → count_of (counted count) ≡ count
 count_back count = omega arith
@@ -24,10 +27,13 @@ module _ (base : WorldValue) (store : StoreValue) (held : IsHeld (with_store sto
   world = world_of (with_store store base)
 
   module _ (entry : stored.OverlayEntry) (m : Among entry store.overlays) where
+    lower : entry.above ≡ None
+    lower = kept_lower base store held entry m
+
     shown : AreLayers store.plain entry.overlay.lowers
         × All (ShowsLayer (world_of (with_store store base)) store.plain) entry.overlay.lowers
     shown = layers_shown_well held (overlay_of_store store.plain entry)
-        (among-map (overlay_of_store store.plain) store.overlays entry m) entry.overlay.lowers refl
+        (among-map (overlay_of_store store.plain) store.overlays entry m) entry.overlay.lowers (lowers_are entry lower)
 
     -- what a path leads to in a layer, in the store and in the world
     layer_lends : (path : List (List ℕ)) (layer : LayerRef) → Among layer entry.overlay.lowers
@@ -58,12 +64,13 @@ module _ (base : WorldValue) (store : StoreValue) (held : IsHeld (with_store sto
         ≡ Some (with_objects store.plain entry.overlay)
     overlay_is = ap (λ (f : Filesystem ℕ). f.overlay) (overlay_found base store held entry m)
         ∙ (λ i. Some (record (with_objects store.plain entry.overlay) {
+          lowers = lowers_are entry lower i;
           real = inodes_have_their_objects store.plain entry.overlay shown.0 i;
         }))
 
-    over_lends : (number : ℕ) → real_lent store.plain entry.overlay number
+    over_lends : (number : ℕ) → layered_lent store.plain entry.overlay entry.above number
         ≡ lent_of_world (world_of (with_store store base)) (counted entry.count) number
-    over_lends number = real_objects_are_lent store.plain entry.overlay shown.0 number
+    over_lends number = lent_are entry lower store.plain number ∙ real_objects_are_lent store.plain entry.overlay shown.0 number
         ∙ ap (then_some ((with_objects store.plain entry.overlay).real number)) (λ i. λ real. object_lends real i)
         ∙ ap (lent_by (world_of (with_store store base)) number
         (filesystem_numbered nat_eq (world_of (with_store store base)) (counted entry.count))) (sym overlay_is)
@@ -74,10 +81,10 @@ module _ (base : WorldValue) (store : StoreValue) (held : IsHeld (with_store sto
   store_lends count number = by (entry_in store count) refl
     where
       by : (o : Option stored.OverlayEntry) → entry_in store count ≡ o
-          → stores.lent_by store.plain count number (option_map (λ entry. entry.overlay) o)
+          → stores.lent_by store.plain count number (option_map layered_entry o)
           ≡ lent_of_world (world_of (with_store store base)) (counted count) number
       by None e =
-          let found = plain_found base store held count (ap (option_map (λ entry. entry.overlay)) e) in
+          let found = plain_found base store held count (ap (option_map layered_entry) e) in
           let number_is : (filesystem_seen (entry_at store.plain count)).number ≡ counted count =
           ap (λ (f : Filesystem ℕ). f.number) (sym found)
           ∙ number_numbered (counted count) (world_of (with_store store base)).filesystems in

@@ -1,14 +1,17 @@
 -- The filesystems of a store are those of the world that holds it.
 use Rattle.std.proofs.Common.{◌≡◌, refl, sym, ap, subst, ◌∙◌, ⊎_elim, ℕ, nat_eq, eq-eqb, Bool, true, false, cond, not, List, [], ◌∷◌, find, Option, Some, None, unwrap_or, option_map, arith, All}
 use Rattle.vt_spec.proofs.Common.{Filesystem, HasOwnParents, IsTree, Tree, World, filesystem_numbered, no_filesystem, none_is_some}
-use Rattle.vt_mounting.proofs.Common.{Among, IsHeld, OverlayValue, StoreValue, WorldValue, all_from_among, among-from_map, among-map, counted, counted_test, entry_at, entry_in, filesystem_seen, filesystems_seen, found_by_number, found_filesystem, inodes_are_the_tree, number_numbered, numbered_all, overlay_in, overlay_of_store, overlay_seen, overlays_of_store, overlays_seen, with_store, world_of}
+use Rattle.vt_mounting.proofs.Common.{Among, IsHeld, StoreValue, WorldValue, all_from_among, among-from_map, among-map, counted, counted_test, entry_at, entry_in, filesystem_seen, filesystems_seen, found_by_number, found_filesystem, inodes_are_the_tree, number_numbered, numbered_all, overlay_of_store, overlay_seen, overlays_of_store, overlays_seen, with_store, world_of}
 use Rattle.vt_laws_worlds.proofs.overlays_stay.weaving.WovenLists.{plain_ones_are_found}
 use Rattle.vt_fs.proofs.Parents.{parents_named}
 use Rattle.vt_fs.specs.Laws.{ParentsAreNamed}
+use Rattle.vt_layered.specs.LayeredValue.{LayeredValue}
+use Rattle.vt_store.proofs.KeptObjects.{layered_entry}
 use Rattle.vt_store.proofs.Woven.{is_over, is_plain}
 use Rattle.vt_store.specs.OverlaysValue as stored
-use Rattle.vt_store.specs.StoreValue.{StandOnLayers, StandsOnLayers, files_in, filesystems_of}
-use Rattle.vt_mounting.proofs.detach.LayersShown.{layers_number, layers_shown_well}
+use Rattle.vt_store.specs.StoreValue.{StandOnLayers, StandsOnLayers, files_in, filesystems_of, layered_in}
+use Rattle.vt_mounting.proofs.detach.LayersShown.{fits, layers_number, layers_shown_well}
+use Rattle.vt_mounting.proofs.detach.LowerKept.{keeps_right, lower_of, lowers_are, shown_are}
 use Rattle.vt_mounting.proofs.detach.PlainFound.{overlay_among}
 
 -- where none is found, each fails
@@ -33,15 +36,25 @@ module _ (base : WorldValue) (store : StoreValue) (held : IsHeld (with_store sto
       → Among (overlay_of_store store.plain entry) (overlays_of_store store)
   kept_among entry m = among-map (overlay_of_store store.plain) store.overlays entry m
 
-  -- its overlays stand on layers
+  -- its overlays have no upper layer
+  pub kept_lower : (entry : stored.OverlayEntry) → Among entry store.overlays → entry.above ≡ None
+  kept_lower entry m = lower_of entry.overlay entry.above
+      (fits held (overlay_of_store store.plain entry) (kept_among entry m)).0
+
+  -- and stand on layers
   pub store_stands : StandOnLayers store
   store_stands = all_from_among (StandsOnLayers store.plain) store.overlays (λ entry m.
+      let lower = kept_lower entry m in
       let shown = layers_shown_well held (overlay_of_store store.plain entry)
-      (kept_among entry m) entry.overlay.lowers refl in
+      (kept_among entry m) entry.overlay.lowers (lowers_are entry lower) in
       let number = layers_number held (overlay_of_store store.plain entry)
-      (kept_among entry m) entry.overlay.lowers refl in
-      let few = number.1 in
-      record { layers = shown.0; some = number.0; few = omega (arith, few) })
+      (kept_among entry m) entry.overlay.lowers (lowers_are entry lower) in
+      let few = number.1 in record {
+        layers = shown.0;
+        some = number.0;
+        few = omega (arith, few);
+        right = keeps_right entry lower store.plain;
+      })
 
   -- an overlay of it is found in the world
   pub overlay_found : (entry : stored.OverlayEntry) → Among entry store.overlays
@@ -54,7 +67,7 @@ module _ (base : WorldValue) (store : StoreValue) (held : IsHeld (with_store sto
       (among-map overlay_seen (overlays_of_store store) (overlay_of_store store.plain entry) (kept_among entry m))).0
 
   -- and so is what is no overlay
-  pub plain_found : (count : ℕ) → overlay_in store count ≡ None
+  pub plain_found : (count : ℕ) → layered_in store count ≡ None
       → filesystem_numbered nat_eq (world_of (with_store store base)) (counted count)
       ≡ filesystem_seen (entry_at store.plain count)
   plain_found count none = ap (λ o. unwrap_or o (no_filesystem (counted count)))
@@ -69,23 +82,25 @@ module _ (base : WorldValue) (store : StoreValue) (held : IsHeld (with_store sto
       (no_entry (entry_in store count) none) entry.0 entry.1))) ∙ found_by_number store.plain count
     where
       no_entry : (o : Option stored.OverlayEntry)
-          → option_map (λ (entry : stored.OverlayEntry). entry.overlay) o ≡ None → o ≡ None
+          → option_map layered_entry o ≡ None → o ≡ None
       no_entry None e = refl
-      no_entry (Some entry) e = none_is_some entry.overlay (sym e)
+      no_entry (Some entry) e = none_is_some (layered_entry entry) (sym e)
 
   -- each tree of the store is that of the world
   pub files_shown : (count : ℕ) → (files_in store count).tree
       ≡ (filesystem_numbered nat_eq (world_of (with_store store base)) (counted count)).files.tree
-  files_shown count = by (overlay_in store count) refl
+  files_shown count = by (layered_in store count) refl
     where
-      by : (o : Option OverlayValue) → overlay_in store count ≡ o → (files_in store count).tree
+      by : (o : Option LayeredValue) → layered_in store count ≡ o → (files_in store count).tree
           ≡ (filesystem_numbered nat_eq (world_of (with_store store base)) (counted count)).files.tree
       by None e = ap (λ (f : Filesystem ℕ). f.files.tree) (is_plain store count e ∙ sym (plain_found count e))
-      by (Some overlay) e =
-          let over = is_over store count overlay e in
+      by (Some layered) e =
+          let over = is_over store count layered e in
+          let lower = kept_lower over.entry over.among in
           let number : counted count ≡ counted over.entry.count =
           sym (number_numbered (counted count) (filesystems_of store)) ∙ ap (λ (f : Filesystem ℕ). f.number) over.is in
-          ap (λ (f : Filesystem ℕ). f.files.tree) over.is ∙ sym (inodes_are_the_tree store.plain over.entry.overlay)
+          ap (λ (f : Filesystem ℕ). f.files.tree) (over.is ∙ shown_are over.entry lower store.plain)
+          ∙ sym (inodes_are_the_tree store.plain over.entry.overlay)
           ∙ ap (λ (f : Filesystem ℕ). f.files.tree)
           (sym (ap (filesystem_numbered nat_eq (world_of (with_store store base))) number
           ∙ overlay_found over.entry over.among))

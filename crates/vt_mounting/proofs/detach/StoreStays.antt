@@ -6,9 +6,10 @@ use Rattle.vt_world.proofs.overlays_kept.events.KeptOverlays.{kept_overlays_stay
 use Rattle.vt_overlay.specs.declared.merge.layers.LayerRef.{LayerRef}
 use Rattle.vt_store.specs.OverlaysValue as stored
 use Rattle.vt_mounting.specs.Detach.Events.{left_by, supply_of}
-use Rattle.vt_mounting.proofs.detach.LayersShown.{layers_shown_well}
+use Rattle.vt_mounting.proofs.detach.LayersShown.{fits, layers_shown_well}
 use Rattle.vt_mounting.proofs.detach.PlainFound.{overlay_among}
-use Rattle.vt_mounting.proofs.detach.StoreShown.{overlay_found}
+use Rattle.vt_mounting.proofs.detach.LowerKept.{lower_of, lowers_are}
+use Rattle.vt_mounting.proofs.detach.StoreShown.{kept_lower, overlay_found}
 
 -- Layers that a world shows, the same world but for change numbers and the order of numbers shows, too.
 shown_before : {one other : World ℕ} → SameWorlds one other → (trees : Filesystems) (layers : List LayerRef)
@@ -53,13 +54,15 @@ module _ (base new_base : WorldValue) (old new : StoreValue) (task : Task ℕ) (
           let one = were entry m in
           let shown = layers_shown_well held (overlay_of_store old.plain one.0)
           (among-map (overlay_of_store old.plain) old.overlays one.0 one.1) entry.overlay.lowers
-          (ap (λ (overlay : OverlayValue). map layer_seen overlay.lowers) one.3) in
+          (lowers_are one.0 (kept_lower base old held one.0 one.1)
+          ∙ ap (λ (overlay : OverlayValue). map layer_seen overlay.lowers) one.3) in
           record { are = shown.0; all = shown.1 }
 
       after : ShowsLayers (left_by (with_store old base) task permit) new.plain entry.overlay
       after =
           let shown = layers_shown_well there (overlay_of_store old.plain entry) kept entry.overlay.lowers
-          refl in
+          (lowers_are entry (lower_of entry.overlay entry.above
+          (fits there (overlay_of_store old.plain entry) kept).0)) in
           record {
             are = shown.0;
             all = shown_before becomes new.plain entry.overlay.lowers shown.1;
@@ -75,6 +78,7 @@ module _ (base new_base : WorldValue) (old new : StoreValue) (task : Task ℕ) (
           ∙ subst (λ (overlay : OverlayValue). (overlay_seen (overlay_of_store old.plain
           (record one.0 { overlay = overlay }))).overlay ≡ Some (with_objects old.plain entry.overlay)) (sym one.3)
           (λ i. Some (record (with_objects old.plain entry.overlay) {
+            lowers = lowers_are (record one.0 { overlay = entry.overlay }) (kept_lower base old held one.0 one.1) i;
             real = inodes_have_their_objects old.plain entry.overlay before.are i;
           }))
 

@@ -1,13 +1,15 @@
 -- A store in which a filesystem has one mount less, as contracts of vt_store change it.
 use Rattle.std.proofs.Common.{◌≡◌, ◌≢◌, refl, sym, ap, ◌∙◌, ℕ, nat_eq, ◌-◌, eq-eqb, ne_eqb, Bool, true, false, cond, List, [], ◌∷◌, map, Some, None, is_some, option_map, unwrap_or, IfSome, arith}
 use Rattle.vt_spec.proofs.Common.{common_steps, folded, map_alike, none_from_not_some}
-use Rattle.vt_mounting.proofs.Common.{Overlays, Shown, StoreValue, counted, counted_test, entry_in, entry_kept, filter_alike, lowers_in, shown, with_mounts, with_mounts_by, with_overlay_changed, without_overlay}
+use Rattle.vt_mounting.proofs.Common.{Overlays, Shown, StoreValue, counted, counted_test, entry_in, entry_kept, filter_alike, shown, with_mounts, with_mounts_by, with_overlay_changed, without_overlay}
 use Rattle.vt_mount.proofs.EntryLemmas.{is_some_mapped}
 use Rattle.vt_overlay.specs.declared.merge.layers.LayerRef.{LayerRef}
 use Rattle.vt_store.specs.Counts.{mounts_by, mounts_in}
 use Rattle.vt_store.specs.LayersHeld as Stored
-use Rattle.vt_store.specs.LayersHeld.{without_layers}
-use Rattle.vt_store.specs.OverlaysValue.{OverlayEntry, overlay_of}
+use Rattle.vt_store.specs.LayersHeld.{held_in, without_layers}
+use Rattle.vt_layered.specs.LayeredValue.{held_layers}
+use Rattle.vt_store.proofs.KeptObjects.{layered_entry}
+use Rattle.vt_store.specs.OverlaysValue.{OverlayEntry, layered_of, layers_held}
 use Rattle.vt_mounting.specs.Detach.Stored.{kept, layer_of, merged_of}
 use Rattle.vt_mounting.specs.Detach.Uses.{leave_filesystem, let_go_filesystem, merged_at, merged_left_by, mounts_shown, released_in, released_merged, shown_left_by, without_layer, without_merged}
 use Rattle.vt_mounting.proofs.detach.Shown.{unpinned_shown}
@@ -21,10 +23,10 @@ found_merged count (entry ∷ rest) = grind (arith, common_steps, found_merged c
 
 -- an overlay is kept just if there is one
 pub merged_there : (count : ℕ) (overlays : Overlays)
-    → is_some (merged_at (counted count) (map merged_of overlays)) ≡ is_some (overlay_of overlays count)
+    → is_some (merged_at (counted count) (map merged_of overlays)) ≡ is_some (layered_of overlays count)
 merged_there count overlays =
     ap is_some (found_merged count overlays) ∙ is_some_mapped merged_of (entry_kept overlays count)
-    ∙ sym (is_some_mapped (λ (entry : OverlayEntry). entry.overlay) (entry_kept overlays count))
+    ∙ sym (is_some_mapped layered_entry (entry_kept overlays count))
 
 abbrev less : OverlayEntry → OverlayEntry
 less entry = record entry { mounts = entry.mounts - 1 }
@@ -80,7 +82,7 @@ module _ (count : ℕ) (old : StoreValue) {held : StoreValue}
     mounts_so = is ∙ ap (mounts_by held.plain count) entry_so
 
     left_by : {b : Bool} → nat_eq (entry.mounts - 1) 0 ≡ b → (new : StoreValue)
-        → shown new.plain ≡ cond b (folded without_layer (shown old.plain) (map layer_of entry.overlay.lowers))
+        → shown new.plain ≡ cond b (folded without_layer (shown old.plain) (map layer_of (layers_held entry)))
         (shown old.plain)
         → map merged_of new.overlays ≡ cond b (without_merged (counted count) (map merged_of old.overlays))
         (released_merged (counted count) (map merged_of old.overlays))
@@ -88,7 +90,7 @@ module _ (count : ℕ) (old : StoreValue) {held : StoreValue}
     left_by t new plain overlays = λ i. record {
       mounts = [];
       filesystems = (plain
-          ∙ ap (λ c. cond c (folded without_layer (shown old.plain) (map layer_of entry.overlay.lowers))
+          ∙ ap (λ c. cond c (folded without_layer (shown old.plain) (map layer_of (layers_held entry)))
           (shown old.plain)) (sym t) ∙ sym (ap (λ o. shown_left_by (counted count) o (shown old.plain)) merged_so)) i;
       overlays = (overlays ∙ ap (λ c. cond c (without_merged (counted count) (map merged_of old.overlays))
           (released_merged (counted count) (map merged_of old.overlays))) (sym t)
@@ -105,12 +107,12 @@ module _ (count : ℕ) (old : StoreValue) {held : StoreValue}
 
   -- It goes with its last mount, and its layers with it,
   pub overlay_goes : n ≡ 0 → (new : StoreValue) → new.overlays ≡ without_overlay count held.overlays
-      → shown new.plain ≡ without_layers (lowers_in held count) (shown held.plain) → IsLeft new
+      → shown new.plain ≡ without_layers (held_in held count) (shown held.plain) → IsLeft new
   overlay_goes zero new overlays plain = by_entry new (λ entry e.
       left_by e (eq-eqb (entry.mounts - 1) 0 (sym (mounts_so e) ∙ zero)) new (plain
-      ∙ (λ i. without_layers (unwrap_or (option_map (λ overlay. overlay.lowers)
-      (option_map (λ (one : OverlayEntry). one.overlay) (entry_so e i))) []) (shown (held_so e i).plain))
-      ∙ layers_less entry.overlay.lowers (shown old.plain)) (ap (map merged_of)
+      ∙ (λ i. without_layers (unwrap_or (option_map (λ layered. held_layers layered.overlay layered.above)
+      (option_map layered_entry (entry_so e i))) []) (shown (held_so e i).plain))
+      ∙ layers_less (layers_held entry) (shown old.plain)) (ap (map merged_of)
       (overlays ∙ ap (λ (store : StoreValue). without_overlay count store.overlays) (held_so e))
       ∙ removed count old.overlays))
 

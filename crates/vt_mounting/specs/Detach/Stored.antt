@@ -5,8 +5,8 @@ use Rattle.vt_location.specs.Locations.{inode_of}
 use Rattle.vt_location.specs.Numbers.{counted}
 use Rattle.vt_overlay.specs.declared.merge.layers.LayerRef.{LayerRef}
 use Rattle.vt_mount.specs.MountsValue.{MountEntry}
-use Rattle.vt_overlay.specs.MergedTree.{OverlayValue}
-use Rattle.vt_store.specs.OverlaysValue.{OverlayEntry, Overlays}
+use Rattle.vt_layered.specs.LayeredValue.{LayeredValue}
+use Rattle.vt_store.specs.OverlaysValue.{OverlayEntry, Overlays, layers_held}
 use Rattle.vt_store.specs.StoreValue.{StoreValue}
 use Rattle.vt_mounting.specs.Detach.Uses.{Kept, Merged, kept_with}
 
@@ -17,19 +17,22 @@ layer_of layer = (counted layer.directory.filesystem.count, inode_of layer.direc
 -- an overlay of a store as it is counted
 abbrev pub merged_of : OverlayEntry → Merged
 merged_of entry =
-    record { number = counted entry.count; mounts = entry.mounts; layers = map layer_of entry.overlay.lowers }
+    record { number = counted entry.count; mounts = entry.mounts; layers = map layer_of (layers_held entry) }
 
 -- mounts with a store
 abbrev pub kept : List MountEntry → StoreValue → Kept
 kept mounts store = kept_with mounts store.plain (map merged_of store.overlays)
 
 -- the overlays under their counts, with their layers and who mounted them
-abbrev pub under_counts : Overlays → List (ℕ × OverlayValue)
-under_counts overlays = map (λ entry. (entry.count, entry.overlay)) overlays
+abbrev pub layered_kept : OverlayEntry → ℕ × LayeredValue
+layered_kept entry = (entry.count, record { overlay = entry.overlay; above = entry.above })
+
+abbrev pub under_counts : Overlays → List (ℕ × LayeredValue)
+under_counts overlays = map layered_kept overlays
 
 -- some of them are left, in their order
 abbrev pub OverlaysLeft : Overlays → Overlays → Type 0
-OverlaysLeft old new = (stays : ℕ × OverlayValue → Bool) × (under_counts new ≡ filter stays (under_counts old))
+OverlaysLeft old new = (stays : ℕ × LayeredValue → Bool) × (under_counts new ≡ filter stays (under_counts old))
 
 -- or all, and none comes
 abbrev pub OverlaysStay : Overlays → Overlays → Type 0

@@ -13,7 +13,12 @@ use Rattle.vt_fs.specs.Laws.{ParentsAreNamed}
 use Rattle.vt_fs.proofs.Parents.{parents_named}
 use Rattle.vt_overlay.specs.declared.merge.layers.LayerRef.{LayerRef}
 use Rattle.vt_overlay.specs.MergedTree.{layer_seen}
-use Rattle.vt_store.specs.Locks.{is_in_layer, lies_in, lies_in_overlay}
+use Rattle.vt_layered.specs.LayeredValue.{keeps_object}
+use Rattle.vt_location.specs.Numbers.{exchanged}
+use Rattle.vt_world.specs.StoredWorld.{lowers_of_store}
+use Rattle.vt_mounting.proofs.detach.LowerKept.{held_are, lowers_are}
+use Rattle.vt_mounting.proofs.detach.StoreShown.{kept_lower}
+use Rattle.vt_store.specs.Locks.{is_in_layer, keeps_in, lies_in, lies_in_overlay}
 use Rattle.vt_world.specs.Held.{HasOwnInodes}
 use Rattle.vt_mounting.specs.Detach.Looking.{is_seen}
 use Rattle.vt_mounting.proofs.detach.LookLemmas.{unseen_node}
@@ -78,9 +83,9 @@ module _ (base : WorldValue) (store : StoreValue) (held : IsHeld (with_store sto
   -- the layers of its overlays
   live_are : (entries : List stored.OverlayEntry)
       → flat_map (of_overlay [] layers_of) (overlays_seen (map (overlay_of_store store.plain) entries))
-      ≡ flat_map (λ (entry : stored.OverlayEntry). map layer_seen entry.overlay.lowers) entries
+      ≡ flat_map (λ (entry : stored.OverlayEntry). lowers_of_store entry.overlay entry.above) entries
   live_are [] = refl
-  live_are (entry ∷ entries) = ap (λ rest. map layer_seen entry.overlay.lowers ++ rest) (live_are entries)
+  live_are (entry ∷ entries) = ap (λ rest. lowers_of_store entry.overlay entry.above ++ rest) (live_are entries)
 
   abbrev in_entry : ℕ → ℕ → stored.OverlayEntry → Bool
   in_entry filesystem number entry =
@@ -96,9 +101,11 @@ module _ (base : WorldValue) (store : StoreValue) (held : IsHeld (with_store sto
       (overlays_are kept held.overlays)
       ∙ ap (list_any (lies_in_layer nat_eq world filesystem number)) (live_are store.overlays)
       ∙ any_flat (lies_in_layer nat_eq world filesystem number)
-      (λ (entry : stored.OverlayEntry). map layer_seen entry.overlay.lowers) store.overlays
+      (λ (entry : stored.OverlayEntry). lowers_of_store entry.overlay entry.above) store.overlays
       ∙ any_alike _ (in_entry filesystem number) store.overlays
-      (λ entry m. list_any_of_map (lies_in_layer nat_eq world filesystem number) layer_seen entry.overlay.lowers)
+      (λ entry m. ap (list_any (lies_in_layer nat_eq world filesystem number))
+      (lowers_are entry (kept_lower base store held entry m))
+      ∙ list_any_of_map (lies_in_layer nat_eq world filesystem number) layer_seen entry.overlay.lowers)
 
   module _ (entry : stored.OverlayEntry) (m : Among entry store.overlays) (layer : LayerRef)
       (n : Among layer entry.overlay.lowers) where
@@ -114,8 +121,10 @@ module _ (base : WorldValue) (store : StoreValue) (held : IsHeld (with_store sto
         (among-map overlay_seen (overlays_of_store store) (overlay_of_store store.plain entry)
         (among-map (overlay_of_store store.plain) store.overlays entry m))).0 in
         let all : list_all (is_plain_layer nat_eq world) (map layer_seen entry.overlay.lowers) ≡ true =
-        among_from_list_all (of_overlay true (λ overlay. list_all (is_plain_layer nat_eq world) (layers_of overlay)))
-        world.filesystems held.in_world.overlays.plain_layers seen among in
+        subst (λ layers. list_all (is_plain_layer nat_eq world) layers ≡ true)
+        (lowers_are entry (kept_lower base store held entry m))
+        (among_from_list_all (of_overlay true (λ overlay. list_all (is_plain_layer nat_eq world) (layers_of overlay)))
+        world.filesystems held.in_world.overlays.plain_layers seen among) in
         not-true _ (and_parts (not (is_overlay (filesystem_numbered nat_eq world (counted own)))) _
         (among_from_list_all (is_plain_layer nat_eq world) (map layer_seen entry.overlay.lowers) all (layer_seen layer)
         (among-map layer_seen entry.overlay.lowers layer n))).0
@@ -197,9 +206,15 @@ module _ (base : WorldValue) (store : StoreValue) (held : IsHeld (with_store sto
   -- The locks of the store are those of the world: on an inode of a plain filesystem,
   pub locks_are : (count number : ℕ) → is_in_layer store count number
       ≡ is_locked nat_eq (world_of (with_store store base)) (counted count) number
-  locks_are count number =
-      any_alike (lies_in_overlay store.plain count number) (in_entry (counted count) number) store.overlays
-      (λ entry m. any_alike (lies_in store.plain count number)
+  locks_are count number = (λ i. list_any (lies_in_overlay store.plain count number) store.overlays
+      || none_from_among (keeps_in count number) store.overlays (λ entry m.
+      ap (λ above. keeps_object entry.overlay above
+      (record { filesystem = record { count = count }; slot = exchanged count number }))
+      (kept_lower base store held entry m)) i)
+      ∙ or-false _
+      ∙ any_alike (lies_in_overlay store.plain count number) (in_entry (counted count) number) store.overlays
+      (λ entry m. ap (list_any (lies_in store.plain count number)) (held_are entry (kept_lower base store held entry m))
+      ∙ any_alike (lies_in store.plain count number)
       (λ layer. lies_in_layer nat_eq world (counted count) number (layer_seen layer)) entry.overlay.lowers
       (λ layer n. sym (lies_so entry m layer n count number))) ∙ sym (locked_by (counted count) number)
 

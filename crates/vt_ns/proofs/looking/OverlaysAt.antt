@@ -3,10 +3,12 @@ use Rattle.std.proofs.Common.{◌≡◌, sym, ap, ◌∙◌, ℕ, nat_eq, Some, 
 use Rattle.vt_spec.proofs.Common.{Filesystem, Overlay, filesystem_numbered, real_of}
 use Rattle.vt_world.specs.OverlaysKept.Inodes.{inodes_kept}
 use Rattle.vt_laws_trees.proofs.trees.TreesOfWorlds.{number_numbered}
-use Rattle.vt_ns.proofs.Common.{IsHeld, OverlayValue, StoreValue, WorldValue, counted, overlay_in, overlay_of_store, with_store, world_of}
+use Rattle.vt_ns.proofs.Common.{IsHeld, OverlayValue, StoreValue, WorldValue, counted, layered_in, overlay_of_store, with_store, world_of}
 use Rattle.vt_overlay.specs.MergedTree.{overlay_seen}
+use Rattle.vt_layered.specs.LayeredValue.{LayeredValue}
 use Rattle.vt_store.proofs.Woven.{is_over}
 use Rattle.vt_store.specs.StoreValue.{filesystems_of}
+use Rattle.vt_world.specs.StoredWorld.{lowers_of_store}
 use Rattle.vt_world.specs.WorldValue as worlds
 use Rattle.vt_mounting.proofs.detach.StoreShown.{overlay_found, plain_found}
 
@@ -17,14 +19,14 @@ pub record IsOverlayOf (kept : OverlayValue) (filesystem : Filesystem ℕ) : Typ
   pub mounter : overlay.mounter ≡ kept.mounter
 
 module _ (base : WorldValue) (store : StoreValue) (held : IsHeld (with_store store base)) (count : ℕ) where
-  pub no_overlay_there : overlay_in store count ≡ None
+  pub no_overlay_there : layered_in store count ≡ None
       → (filesystem_numbered nat_eq (world_of (with_store store base)) (counted count)).overlay ≡ None
   no_overlay_there none = ap (λ (f : Filesystem ℕ). f.overlay) (plain_found base store held count none)
 
-  pub overlay_there : (overlay : OverlayValue) → overlay_in store count ≡ Some overlay
-      → IsOverlayOf overlay (filesystem_numbered nat_eq (world_of (with_store store base)) (counted count))
-  overlay_there overlay some =
-      let over = is_over store count overlay some in
+  pub overlay_there : (layered : LayeredValue) → layered_in store count ≡ Some layered
+      → IsOverlayOf layered.overlay (filesystem_numbered nat_eq (world_of (with_store store base)) (counted count))
+  overlay_there layered some =
+      let over = is_over store count layered some in
       let number : counted count ≡ counted over.entry.count =
       sym (number_numbered (counted count) (filesystems_of store)) ∙ ap (λ (f : Filesystem ℕ). f.number) over.is in
       let is : filesystem_numbered nat_eq (world_of (with_store store base)) (counted count)
@@ -33,8 +35,9 @@ module _ (base : WorldValue) (store : StoreValue) (held : IsHeld (with_store sto
       ∙ overlay_found base store held over.entry over.among in
       record {
         overlay = record (overlay_seen over.entry.overlay) {
+          lowers = lowers_of_store over.entry.overlay over.entry.above;
           real = real_of nat_eq (inodes_kept store.plain over.entry.overlay);
         };
         is = ap (λ (f : Filesystem ℕ). f.overlay) is;
-        mounter = ap (λ (one : OverlayValue). one.mounter) over.holds;
+        mounter = ap (λ (one : LayeredValue). one.overlay.mounter) over.holds;
       }

@@ -1,9 +1,10 @@
 -- What a store shows is what the world that holds it shows.
 use Rattle.std.proofs.Common.{◌≡◌, refl, sym, ap, subst, ◌∙◌, ⊎_elim, inl, inr, ◌⊎◌, ℕ, nat_eq, true≢false, Option, Some, None}
 use Rattle.vt_spec.proofs.Common.{FileTree, Filesystem, Tree, ancestors, filesystem_numbered, is_among, is_directory_node, is_directory_under, is_overlay, no_filesystem}
-use Rattle.vt_ns.proofs.Common.{IsFileTree, IsHeld, OverlayValue, StoreValue, WorldValue, all_from_among, counted, files_shown, lent_in, lent_of_world, numbered_all, overlay_in, store_stands, with_store, world_of}
+use Rattle.vt_ns.proofs.Common.{IsFileTree, IsHeld, StoreValue, WorldValue, all_from_among, counted, files_shown, layered_in, lent_in, lent_of_world, numbered_all, store_stands, with_store, world_of}
 use Rattle.vt_laws_trees.proofs.trees.TreesOfWorlds.{number_numbered}
 use Rattle.vt_fs.specs.Laws.{LieUnderRoot}
+use Rattle.vt_layered.specs.LayeredValue.{LayeredValue}
 use Rattle.vt_store.proofs.NodesAlike.{nodes_are_like_objects}
 use Rattle.vt_store.proofs.Woven.{is_over, is_plain}
 use Rattle.vt_store.specs.StoreValue.{files_in, filesystem_in, filesystems_of}
@@ -64,13 +65,13 @@ module _ (base : WorldValue) (store : StoreValue) (held : IsHeld (with_store sto
   -- it is an overlay there and here
   pub overlay_shown : is_overlay (filesystem_in store count)
       ≡ is_overlay (filesystem_numbered nat_eq (world_of (with_store store base)) (counted count))
-  overlay_shown = by (overlay_in store count) refl
+  overlay_shown = by (layered_in store count) refl
     where
-      by : (o : Option OverlayValue) → overlay_in store count ≡ o → is_overlay (filesystem_in store count)
+      by : (o : Option LayeredValue) → layered_in store count ≡ o → is_overlay (filesystem_in store count)
           ≡ is_overlay (filesystem_numbered nat_eq (world_of (with_store store base)) (counted count))
       by None e = ap is_overlay (is_plain store count e ∙ sym (plain_found base store held count e))
-      by (Some overlay) e =
-          let over = is_over store count overlay e in
+      by (Some layered) e =
+          let over = is_over store count layered e in
           let number : counted count ≡ counted over.entry.count =
           sym (number_numbered (counted count) (filesystems_of store)) ∙ ap (λ (f : Filesystem ℕ). f.number) over.is in
           ap is_overlay over.is ∙ sym (ap is_overlay

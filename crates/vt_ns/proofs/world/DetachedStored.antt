@@ -25,7 +25,7 @@ module _ (base : WorldValue) (store : StoreValue) (held : IsHeld (with_store sto
     -- what is collected leaves what the world with the changed tree keeps
     pub collected_leave : LeaveTogether gone (kept_of (with_filesystems value plain)) base.groups (kept mounts last)
         groups
-    collected_leave = grind (arith, common_steps, kept_is base store, are, left)
+    collected_leave = grind (arith, common_steps, kept_is base store held, are, left)
 
     -- and the world then has the store that is left
     pub left_is_stored : OverlaysLeft store.overlays last.overlays → (name : TaskName) (permit : Permit ℕ)

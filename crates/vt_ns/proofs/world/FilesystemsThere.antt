@@ -7,8 +7,9 @@ use Rattle.vt_fs.specs.FilesystemsValue.{filesystems_seen}
 use Rattle.vt_laws_trees.specs.Overlays.InOrder.{put_in}
 use Rattle.vt_laws_worlds.specs.OverlaysStay.Woven.{woven}
 use Rattle.vt_location.specs.declared.numbers.NamespaceId.{NamespaceId}
+use Rattle.vt_store.proofs.KeptObjects.{layered_entry}
 use Rattle.vt_store.specs.OverlaysValue.{OverlayEntry}
-use Rattle.vt_store.specs.StoreValue.{entry_in, overlay_in}
+use Rattle.vt_store.specs.StoreValue.{entry_in, layered_in}
 use Rattle.vt_world.specs.StoredWorld.{overlay_of_store, overlays_of_store}
 use Rattle.vt_world.specs.WorldValue.{overlay_seen, overlays_seen}
 use Rattle.vt_world.specs.declared.namespaces.Namespace.{Namespace as Kept}
@@ -49,13 +50,13 @@ mapped_there f (Some a) = refl
 -- an overlay, or a plain one
 pub filesystem_there : (store : StoreValue) (count : ℕ)
     → there (counted count) (woven (filesystems_seen store.plain) (overlays_seen (overlays_of_store store)))
-    ≡ (is_some (overlay_in store count) || is_some (entry_of store.plain count))
+    ≡ (is_some (layered_in store count) || is_some (entry_of store.plain count))
 filesystem_there store count =
     woven_there (counted count) (filesystems_seen store.plain) (overlays_seen (overlays_of_store store))
     ∙ ap (λ b. b || there (counted count) (filesystems_seen store.plain))
     (overlays_there store.plain count store.overlays
-    ∙ sym (mapped_there (λ (entry : OverlayEntry). entry.overlay) (entry_in store count)))
-    ∙ ap (λ b. is_some (overlay_in store count) || b) (plain_there store.plain count)
+    ∙ sym (mapped_there layered_entry (entry_in store count)))
+    ∙ ap (λ b. is_some (layered_in store count) || b) (plain_there store.plain count)
 
 -- a namespace
 pub namespace_there : (kept : List (NamespaceId × Kept)) (count : ℕ)

@@ -94,7 +94,7 @@ module _ (base : WorldValue) (store : StoreValue) (name : TaskName) (new : ToMou
   may_mount_overlay =
       may_graft value whole permits.task graft counts (overlay_of permits.task new) (flags_of new.flags) given_there refl
       refl refl entry
-      (kept_is_overlay value whole name new permits lowers lowers_are mounter mounter_is) refl refl binds tree_seen
+      (kept_is_overlay value whole name new permits lowers lowers_are mounter mounter_is) refl refl refl binds tree_seen
       parts_are first step ascending odd
 
   -- what is attached and held leaves the world that the permit leaves
@@ -110,7 +110,7 @@ module _ (base : WorldValue) (store : StoreValue) (name : TaskName) (new : ToMou
   overlay_mounted small_next held later with_overlay stay mounts groups next is grows =
       let done = overlay_is_mounted base store held later whole permits.task graft counts
       (overlay_of permits.task new) (flags_of new.flags) given_there refl refl refl entry
-      (kept_is_overlay value whole name new permits lowers lowers_are mounter mounter_is) refl refl
+      (kept_is_overlay value whole name new permits lowers lowers_are mounter mounter_is) refl refl refl
       (layers_are_kept value whole name new permits lowers lowers_are mounter mounter_is) small_next binds tree_seen
       parts_are first step ascending odd with_overlay stay mounts groups next is grows in
       let then = with_store later (record base { mounts = mounts; groups = groups; next = next }) in

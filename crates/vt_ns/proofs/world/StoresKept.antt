@@ -1,12 +1,17 @@
 -- The store of a world, and an event that leaves all its overlays.
-use Rattle.std.proofs.Common.{◌≡◌, sym, ap, subst, ◌∙◌, ℕ, map, arith}
-use Rattle.vt_spec.proofs.Common.{Permit, TaskName, map_alike, map_twice, common_steps}
+use Rattle.std.proofs.Common.{◌≡◌, sym, ap, subst, ◌∙◌, ℕ, map}
+use Rattle.vt_spec.proofs.Common.{Permit, TaskName}
 use Rattle.vt_ns.proofs.Common.{IsDone, IsHeld, Permits, StoreValue, WorldValue, kept, kept_of, left_itself, overlay_of_store, overlays_of_store, with_store}
+use Rattle.vt_mounting.specs.Detach.Uses.{kept_with}
+use Rattle.vt_mounting.proofs.attach.OverlayMounted.{merged_are}
+use Rattle.vt_mounting.proofs.detach.StoreShown.{kept_lower}
 use Rattle.vt_mounting.proofs.detach.OverlaysListed.{done_in_store, kept_in_store}
 
 -- what a store keeps is what its world has
-pub kept_is : (base : WorldValue) (store : StoreValue) → kept base.mounts store ≡ kept_of (with_store store base)
-kept_is base store = grind (arith, common_steps, kept, map, map_alike, map_twice)
+pub kept_is : (base : WorldValue) (store : StoreValue) → IsHeld (with_store store base)
+    → kept base.mounts store ≡ kept_of (with_store store base)
+kept_is base store held =
+    ap (kept_with base.mounts store.plain) (merged_are store.plain store.overlays (kept_lower base store held))
 
 -- An event after which a store has the overlays that it had is done in the world of the store, if it is in the world
 -- that has them as they were.

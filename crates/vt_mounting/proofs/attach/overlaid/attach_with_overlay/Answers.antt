@@ -1,7 +1,7 @@
 use Rattle.std.proofs.Common.{List, Some, [], ap, arith, length, map, refl, subst, sym, true, ◌*◌, ◌+◌, ◌++◌, ◌-◌, ◌∷◌, ◌≡◌, ◌∙◌, ◌≤◌}
 use Rattle.vt_spec.proofs.Common.{folded, length-map, list_all, map-append}
 use Rattle.vt_location.specs.Numbers.{most_counted}
-use Rattle.vt_mounting.proofs.Common.{Filesystems, Overlays, Shown, StoreValue, lowers_in, shown, with_layers, without_overlay}
+use Rattle.vt_mounting.proofs.Common.{Filesystems, Overlays, Shown, StoreValue, held_in, shown, with_layers, without_overlay}
 use Rattle.vt_location.specs.declared.locations.Location.{Location}
 use Rattle.vt_mount.specs.declared.moving.Moved.{Moved}
 use Rattle.vt_store.specs.LayersHeld.{HaveRoomFor, new_overlay}
@@ -18,10 +18,10 @@ pub hold_layers_of-requires : goal.hold_layers_of-requires
 hold_layers_of-requires c =
     let e = new_overlay c.args.filesystem c.args.lowers.items c.args.mounter in
     let entered = c.in_ok-enter_overlay.ensures.ok in
-    let lowers : lowers_in c.enter_overlay.new.self c.args.filesystem.count ≡ c.args.lowers.items =
-    ap (λ (store : StoreValue). lowers_in store c.args.filesystem.count) entered
+    let lowers : held_in c.enter_overlay.new.self c.args.filesystem.count ≡ c.args.lowers.items =
+    ap (λ (store : StoreValue). held_in store c.args.filesystem.count) entered
     ∙ lowers_new c.args.store.now e c.requires.above in
-    let layers = lowers_in c.enter_overlay.new.self c.args.filesystem.count in
+    let layers = held_in c.enter_overlay.new.self c.args.filesystem.count in
     subst (λ (plain : Filesystems). HaveRoomFor (length layers) (shown plain) layers)
     (sym (ap (λ (store : StoreValue). store.plain) entered))
     (subst (λ list. HaveRoomFor (length list) (shown c.args.store.now.plain) list)
@@ -32,8 +32,8 @@ exchange_uses-requires-clause-points c =
     let e = new_overlay c.args.filesystem c.args.lowers.items c.args.mounter in
     let plan = c.args.plan.now in
     let entered = c.in_ok-enter_overlay.ensures.ok in
-    let lowers : lowers_in c.enter_overlay.new.self c.args.filesystem.count ≡ c.args.lowers.items =
-    ap (λ (store : StoreValue). lowers_in store c.args.filesystem.count) entered
+    let lowers : held_in c.enter_overlay.new.self c.args.filesystem.count ≡ c.args.lowers.items =
+    ap (λ (store : StoreValue). held_in store c.args.filesystem.count) entered
     ∙ lowers_new c.args.store.now e c.requires.above in
     let layers = map layer_of c.args.lowers.items in
     let all = folded with_layer (shown c.args.store.now.plain) layers in
@@ -65,8 +65,8 @@ exchange_uses-requires-clause-copies c =
     let e = new_overlay c.args.filesystem c.args.lowers.items c.args.mounter in
     let plan = c.args.plan.now in
     let entered = c.in_ok-enter_overlay.ensures.ok in
-    let lowers : lowers_in c.enter_overlay.new.self c.args.filesystem.count ≡ c.args.lowers.items =
-    ap (λ (store : StoreValue). lowers_in store c.args.filesystem.count) entered
+    let lowers : held_in c.enter_overlay.new.self c.args.filesystem.count ≡ c.args.lowers.items =
+    ap (λ (store : StoreValue). held_in store c.args.filesystem.count) entered
     ∙ lowers_new c.args.store.now e c.requires.above in
     let layers = map layer_of c.args.lowers.items in
     let all = folded with_layer (shown c.args.store.now.plain) layers in
@@ -113,8 +113,8 @@ returns-in-Ok-clause-ok c =
     let plan = c.args.plan.now in
     let held = c.hold_layers_of.new.self in
     let entered = c.in_ok-enter_overlay.ensures.ok in
-    let lowers : lowers_in c.enter_overlay.new.self c.args.filesystem.count ≡ c.args.lowers.items =
-    ap (λ (store : StoreValue). lowers_in store c.args.filesystem.count) entered
+    let lowers : held_in c.enter_overlay.new.self c.args.filesystem.count ≡ c.args.lowers.items =
+    ap (λ (store : StoreValue). held_in store c.args.filesystem.count) entered
     ∙ lowers_new c.args.store.now e c.requires.above in
     let moves = c.in-Ok.ensures.moves in
     let left = left_of c.in-Ok.moved.items in

@@ -81,7 +81,7 @@ done c =
     (kept c.attach_graft.new.mounts c.attach_graft.new.store) c.attach_graft.new.groups =
     subst (λ k. IsGrafted (graft at) (counts at) k c.self.inside.groups
     (kept c.attach_graft.new.mounts c.attach_graft.new.store) c.attach_graft.new.groups)
-    (kept_is value c.self.inside.store) c.in_ok-attach_graft.ensures.ok in
+    (kept_is value c.self.inside.store c.self.invariant) c.in_ok-attach_graft.ensures.ok in
     done_in_store value (record value {
       mounts = c.attach_graft.new.mounts;
       groups = c.attach_graft.new.groups;

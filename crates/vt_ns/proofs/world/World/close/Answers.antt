@@ -19,7 +19,7 @@ left_so : (c : goal.After-leave) → kept c.leave.new.mounts c.leave.new.store
     ≡ without_location c.in-Some.closed.location (opens_for_writing (access_of c.in-Some.closed.access))
     (kept_of (the_view c.self.inside))
 left_so c = c.leave.ensures.left ∙ (λ i. without_location c.in-Some.closed.location (c.writes.ensures i)
-    (kept_is (the_view c.self.inside) c.self.inside.store i))
+    (kept_is (the_view c.self.inside) c.self.inside.store c.self.invariant i))
 
 done : (c : goal.After-leave) → IsDone (the_view c.self.inside) c.args.name.now (ToClose c.args.descriptor)
     (after_leaving c)

@@ -45,7 +45,7 @@ left_so c = c.leave-in-Some.ensures.left ∙ ap (without_location c.in-Some.left
     (c.leave.ensures.left ∙ ap (without_location c.in-Some.left.root false)
     (c.hold_once_more-2.ensures.held ∙ ap (with_location c.unwrap-root.result false)
     (c.hold_once_more.ensures.held ∙ ap (with_location c.unwrap-root.result false)
-    (kept_is (the_view c.self.inside) c.self.inside.store))))
+    (kept_is (the_view c.self.inside) c.self.inside.store c.self.invariant))))
 
 -- overlays that are left were there
 overlays_so : (c : goal.After-leave_namespace) → OverlaysLeft c.self.inside.store.overlays

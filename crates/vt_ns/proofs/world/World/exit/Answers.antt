@@ -26,7 +26,7 @@ left_so : (c : goal.After-drop-task-6) → kept c.leave_files.new.mounts c.leave
 left_so c = c.leave_files.ensures.left ∙ ap (λ k. fold without_file k c.files.result.now)
     (c.leave-2.ensures.left ∙ ap (without_location c.in-Some.task.directory false)
     (c.leave.ensures.left ∙ ap (without_location c.in-Some.task.root false)
-    (kept_is (the_view c.self.inside) c.self.inside.store)))
+    (kept_is (the_view c.self.inside) c.self.inside.store c.self.invariant)))
 
 -- overlays that are left were there
 overlays_so : (c : goal.After-drop-task-6) → OverlaysLeft c.self.inside.store.overlays

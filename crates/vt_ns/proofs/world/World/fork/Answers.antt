@@ -33,7 +33,7 @@ held_so : (c : goal.After-count_task) → kept c.hold_once_more-2.new.mounts c.h
     (with_location c.unwrap-parent.result.now.root false (kept_of (the_view c.self.inside)))
 held_so c = c.hold_once_more-2.ensures.held ∙ ap (with_location c.unwrap-parent.result.now.directory false)
     (c.hold_once_more.ensures.held ∙ ap (with_location c.unwrap-parent.result.now.root false)
-    (kept_is (the_view c.self.inside) c.self.inside.store))
+    (kept_is (the_view c.self.inside) c.self.inside.store c.self.invariant))
 
 done : (c : goal.After-count_task) → IsDone (the_view c.self.inside) c.args.name.now (ToFork c.args.cred) (after c)
 done c =

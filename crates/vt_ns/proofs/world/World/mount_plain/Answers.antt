@@ -94,7 +94,7 @@ done c =
     subst (λ k. IsGrafted (graft at) (counts at) k c.self.inside.groups
     (kept c.mount_new.new.mounts c.mount_new.new.store) c.mount_new.new.groups)
     (λ i. kept_with c.self.inside.mounts (c.self.inside.store.plain ++ made.0 ∷ [])
-    (kept_is value c.self.inside.store i).overlays) made.2 in
+    (kept_is value c.self.inside.store c.self.invariant i).overlays) made.2 in
     done_in_store value (record value {
       mounts = c.mount_new.new.mounts;
       groups = c.mount_new.new.groups;

@@ -84,7 +84,7 @@ done c =
     (kept c.move_tree.new.mounts c.move_tree.new.store) c.move_tree.new.groups =
     subst (λ k. IsMovedBy (graft at) (counts at) k c.self.inside.groups
     (kept c.move_tree.new.mounts c.move_tree.new.store) c.move_tree.new.groups)
-    (kept_is value c.self.inside.store) c.in_ok-move_tree.ensures.ok in
+    (kept_is value c.self.inside.store c.self.invariant) c.in_ok-move_tree.ensures.ok in
     done_in_store value (record value {
       mounts = c.move_tree.new.mounts;
       groups = c.move_tree.new.groups;

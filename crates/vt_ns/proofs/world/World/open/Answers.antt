@@ -26,7 +26,7 @@ invariant_of-self-2 c =
     c.hold_once_more.new.store.plain (map merged_of c.hold_once_more.new.store.overlays) c.open.new.self.tasks
     c.self.invariant permits c.hold_once_more.ensures.slot (tasks_are c.in_ok-number.ensures.ok) (c.hold_once_more.ensures.held
     ∙ (λ i. with_location c.args.file (c.writes.ensures i)
-    (kept_is (the_view c.self.inside) c.self.inside.store i))))).held c.open.new.self.births
+    (kept_is (the_view c.self.inside) c.self.inside.store c.self.invariant i))))).held c.open.new.self.births
 
 pub returns-clause-ok : goal.returns-clause-ok
 returns-clause-ok c =
@@ -45,7 +45,7 @@ returns-clause-ok c =
     c.hold_once_more.new.store.plain (map merged_of c.hold_once_more.new.store.overlays) c.open.new.self.tasks
     c.self.invariant permits c.hold_once_more.ensures.slot (tasks_are c.in_ok-number.ensures.ok) (c.hold_once_more.ensures.held
     ∙ (λ i. with_location c.args.file (c.writes.ensures i)
-    (kept_is (the_view c.self.inside) c.self.inside.store i))))).becomes
+    (kept_is (the_view c.self.inside) c.self.inside.store c.self.invariant i))))).becomes
 
 pub returns-clause-counts : goal.returns-clause-counts
 returns-clause-counts c = record {

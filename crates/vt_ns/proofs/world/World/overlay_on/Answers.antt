@@ -2,12 +2,12 @@ use Rattle.std.proofs.Common.{sym, ap, option_map, ◌∙◌}
 use Rattle.vt_location.specs.Numbers.{mount_number}
 use Rattle.vt_ns.specs.contracts.world.World.{the_view}
 use Rattle.vt_ns.proofs.looking.OverlaysLooked.{mounter_shown, nobody_mounted}
-use Rattle.vt_ns.proofs.Common.{OverlayValue}
+use Rattle.vt_layered.specs.LayeredValue.{LayeredValue}
 use Rattle.vt_ns.proofs.world.World.overlay_on.Goals as goal
 
 pub returns-then-has_overlays-clause-mounter : goal.returns-then-has_overlays-clause-mounter
 returns-then-has_overlays-clause-mounter c =
-    ap (option_map (λ (overlay : OverlayValue). overlay.mounter)) c.overlay.ensures.value
+    ap (option_map (λ (one : LayeredValue). one.overlay.mounter)) c.overlay.ensures.value
     ∙ mounter_shown (the_view c.self.inside) c.self.inside.store c.args.self.now c.self.view_is c.self.invariant
     (mount_number c.args.mount) c.shown.result.count c.shown.ensures
 

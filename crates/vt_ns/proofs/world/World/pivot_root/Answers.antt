@@ -61,7 +61,7 @@ held_so : (c : goal.After-pivot-2) → kept c.hold_each.new.mounts c.hold_each.n
     ≡ with_uses c.places_at-moved.result c.root_location-entered.result
     (kept_with c.pivot.new.self c.pin.new.self (map merged_seen (the_view c.self.inside).overlays))
 held_so c = c.hold_each.ensures.held ∙ ap (with_uses c.places_at-moved.result c.root_location-entered.result)
-    (λ i. kept_with c.pivot.new.self c.pin.new.self (kept_is (the_view c.self.inside) c.self.inside.store i).overlays)
+    (λ i. kept_with c.pivot.new.self c.pin.new.self (kept_is (the_view c.self.inside) c.self.inside.store c.self.invariant i).overlays)
 
 abbrev after : (c : goal.After-pivot-2) → WorldValue
 after c = record (remade (the_view c.self.inside) c.release_each.new.mounts c.unpin.new.self c.pivot-2.new.self.tasks) {

@@ -17,7 +17,7 @@ left_so : (c : goal.After-leave) → kept c.leave.new.mounts c.leave.new.store
     ≡ without_location c.in-Some.left false (with_location c.args.root false (kept_of (the_view c.self.inside)))
 left_so c = c.leave.ensures.left ∙ ap (without_location c.in-Some.left false)
     (c.in_ok-hold.ensures.ok ∙ ap (with_location c.args.root false)
-    (kept_is (the_view c.self.inside) c.self.inside.store))
+    (kept_is (the_view c.self.inside) c.self.inside.store c.self.invariant))
 
 done : (c : goal.After-leave) → IsDone (the_view c.self.inside) c.args.name.now
     (ToSetRoot (location_of c.args.root)) (after c)

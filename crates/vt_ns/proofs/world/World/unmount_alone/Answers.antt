@@ -26,7 +26,7 @@ done c =
     c.detach.new.store.plain (map merged_of c.detach.new.store.overlays) c.self.invariant permits
     alone.0 (not-true _ alone.1) c.detach.ensures.point c.detach.ensures.slot
     (c.detach.ensures.left ∙ ap (without_attachment (counted c.args.mount.count) c.detach.result)
-    (kept_is value c.self.inside.store)))
+    (kept_is value c.self.inside.store c.self.invariant)))
 
 pub invariant_of-self : goal.invariant_of-self
 invariant_of-self c = (done c).held

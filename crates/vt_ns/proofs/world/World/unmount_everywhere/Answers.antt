@@ -31,7 +31,7 @@ done c =
     c.newest_first.ensures.points
     (subst (λ k. GoTogether gone c.newest_first.new.plan.points.items k c.self.inside.groups
     (kept c.take_away.new.mounts c.take_away.new.store) c.take_away.new.groups)
-    (kept_is value c.self.inside.store) c.in_ok-take_away.ensures.ok) in
+    (kept_is value c.self.inside.store c.self.invariant) c.in_ok-take_away.ensures.ok) in
     done_in_store value (record value { mounts = c.take_away.new.mounts; groups = c.take_away.new.groups })
     c.self.inside.store c.take_away.new.store c.self.invariant c.in_ok-take_away.ensures.overlays
     c.args.name.now (ToUnmount (counted c.args.mount.count)) permits

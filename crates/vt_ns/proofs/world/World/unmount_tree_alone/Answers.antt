@@ -30,7 +30,7 @@ done c =
     (subst (λ (one : WorldValue). tree ≡ tree_numbers (mounts_in one.mounts) number) (sym c.self.view_is)
     c.requires.tree) ungrouped unshared
     (subst (λ k. LeaveInTurn tree k (kept c.detach_each.new.mounts c.detach_each.new.store))
-    (kept_is value c.self.inside.store) c.detach_each.ensures.left))
+    (kept_is value c.self.inside.store c.self.invariant) c.detach_each.ensures.left))
 
 pub invariant_of-self : goal.invariant_of-self
 invariant_of-self c = (done c).held

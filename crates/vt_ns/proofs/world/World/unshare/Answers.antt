@@ -26,7 +26,7 @@ move_use-requires-clause-uses c =
     (attached_in (counted own.namespace.count) c.self.inside.mounts)
     made.added c.attach_copies.new.mounts c.attach_copies.new.store.plain
     (map merged_of c.attach_copies.new.store.overlays)
-    (made.attached ∙ ap (with_attached made.added) (kept_is (the_view c.self.inside) c.self.inside.store)) own.root
+    (made.attached ∙ ap (with_attached made.added) (kept_is (the_view c.self.inside) c.self.inside.store c.self.invariant)) own.root
     c.moved-new_root.result c.moved-new_root.ensures
 
 pub move_use-requires-clause-writers : goal.move_use-requires-clause-writers
@@ -37,7 +37,7 @@ move_use-requires-clause-writers c =
     (attached_in (counted own.namespace.count) c.self.inside.mounts)
     made.added c.attach_copies.new.mounts c.attach_copies.new.store.plain
     (map merged_of c.attach_copies.new.store.overlays)
-    (made.attached ∙ ap (with_attached made.added) (kept_is (the_view c.self.inside) c.self.inside.store)) own.root
+    (made.attached ∙ ap (with_attached made.added) (kept_is (the_view c.self.inside) c.self.inside.store c.self.invariant)) own.root
     c.moved-new_root.result c.moved-new_root.ensures
 
 pub move_use-requires-2-clause-uses : goal.move_use-requires-2-clause-uses
@@ -48,7 +48,7 @@ move_use-requires-2-clause-uses c = λ other.
     (attached_in (counted own.namespace.count) c.self.inside.mounts)
     made.added c.attach_copies.new.mounts c.attach_copies.new.store.plain
     (map merged_of c.attach_copies.new.store.overlays)
-    (made.attached ∙ ap (with_attached made.added) (kept_is (the_view c.self.inside) c.self.inside.store)) own.directory
+    (made.attached ∙ ap (with_attached made.added) (kept_is (the_view c.self.inside) c.self.inside.store c.self.invariant)) own.directory
     c.moved-new_directory.result c.moved-new_directory.ensures other (counted own.root.mount.count)
     (counted c.moved-new_root.result.mount.count) c.move_use.new.mounts c.move_use.ensures
 
@@ -60,7 +60,7 @@ move_use-requires-2-clause-writers c = λ other.
     (attached_in (counted own.namespace.count) c.self.inside.mounts)
     made.added c.attach_copies.new.mounts c.attach_copies.new.store.plain
     (map merged_of c.attach_copies.new.store.overlays)
-    (made.attached ∙ ap (with_attached made.added) (kept_is (the_view c.self.inside) c.self.inside.store)) own.directory
+    (made.attached ∙ ap (with_attached made.added) (kept_is (the_view c.self.inside) c.self.inside.store c.self.invariant)) own.directory
     c.moved-new_directory.result c.moved-new_directory.ensures other (counted own.root.mount.count)
     (counted c.moved-new_root.result.mount.count) c.move_use.new.mounts c.move_use.ensures
 
@@ -95,7 +95,7 @@ made_so : (c : goal.After-self-1) → CopiesAttached c.self.inside.next (counted
     c.attach_copies.new.groups
 made_so c = subst (λ k. CopiesAttached c.self.inside.next (counted c.unwrap-task.result.now.namespace.count) k
     c.self.inside.groups (kept c.attach_copies.new.mounts c.attach_copies.new.store) c.attach_copies.new.groups)
-    (kept_is (the_view c.self.inside) c.self.inside.store) c.in_ok-attach_copies.ensures.ok
+    (kept_is (the_view c.self.inside) c.self.inside.store c.self.invariant) c.in_ok-attach_copies.ensures.ok
 
 -- overlays that are left were there
 overlays_so : (c : goal.After-self-1) → OverlaysLeft c.self.inside.store.overlays c.leave_namespace.new.store.overlays
