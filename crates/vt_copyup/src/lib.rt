@@ -6,8 +6,10 @@ mod copied;
 mod laws;
 mod planning;
 mod plans;
+mod unnamed;
 
 pub use copied::CopiedNode;
 pub use laws::{plans_make_copies, promises_are_given_back};
 pub use planning::{give_back, plan, promise};
 pub use plans::{Plan, PlannedCopy};
+pub use unnamed::{UnnamedPlan, plan_unnamed};

@@ -63,6 +63,13 @@ impl Plan {
         self.pieces.len()
     }
 
+    /// The upper layer's directory for the first copy; where nothing is planned, the object itself.
+    pub fn directory(&self) -> InodeRef
+        ensures { result ≡ self.now.directory }
+    {
+        self.directory
+    }
+
     /// The filesystem of the upper layer.
     pub fn filesystem(&self) -> FilesystemId
         ensures { result ≡ self.now.directory.filesystem }
@@ -84,6 +91,7 @@ impl Plan {
         ensures filesystem { result.filesystem ≡ self.directory.filesystem }
         ensures entries { EntriesAreThere (files_at trees.new result.filesystem.count).tree }
         ensures there { CopiesAreThere trees.new result.filesystem.count births.new }
+        ensures room { self.pieces.items ≡ [] → room.new ≡ room.old }
     {
         let Plan {
             directory,
@@ -132,13 +140,8 @@ impl PlannedCopy {
         ensures births_left { births.new.promised + 1 ≡ births.old.promised }
     {
         let PlannedCopy { name, node, born } = self;
-        let next = trees.next_number(directory.filesystem).unwrap();
-        births.add(born, next.slot);
-        let node = node.under(directory.node());
-        trees.create_promised(alloc, directory.node_ref(), name, node, room);
-        InodeRef {
-            filesystem: directory.filesystem,
-            slot: next.slot,
-        }
+        let object = node.make(alloc, trees, directory, name, room);
+        births.add(born, object.slot);
+        object
     }
 }

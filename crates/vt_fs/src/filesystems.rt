@@ -518,10 +518,7 @@ impl Filesystems {
             (λ inodes. changed nat_eq inodes (Remove (number_of directory) name.now (number_of object)))
             self.old self.new }
     {
-        let parent = self.slot_of(directory).unwrap();
-        let named = self.slot_of(object).unwrap();
-        let tree = self.get_mut(directory.filesystem).unwrap();
-        tree.unlink(parent, name, named);
+        self.unlink_promised(directory, name, object);
     }
 
     /// Renames an inode within its filesystem, and replaces what had the new name: rename(2).

@@ -1,9 +1,9 @@
 //! What a plan does where nothing may fail: inodes that were promised, and names for which room was made.
-ghost use Rattle.std.specs.Prelude.{◌≡◌, ℕ, ◌+◌, ◌<◌, ◌≤◌, false, is_some, length, nat_eq, true, OnErr, OnOk, Some, None};
+ghost use Rattle.std.specs.Prelude.{◌≡◌, ℕ, [], ◌+◌, ◌<◌, ◌≤◌, false, is_some, length, nat_eq, true, OnErr, OnOk, Some, None};
 ghost use Rattle.vt_spec.specs.FileTree.{has_entry_to};
 ghost use Rattle.vt_spec.specs.Fits.{MayReplace, StaysOutside};
 ghost use Rattle.vt_spec.specs.Inodes.{changed};
-ghost use Rattle.vt_spec.specs.Language.Changes.Change.{Make, Move};
+ghost use Rattle.vt_spec.specs.Language.Changes.Change.{Make, Move, Remove};
 ghost use Rattle.vt_spec.specs.Laws.Trees.{IsNewIn};
 ghost use Rattle.vt_spec.specs.Tree.{entries_in};
 ghost use Rattle.vt_spec.specs.TreeInvariant.{IsDirectory, entry_at as number_at};
@@ -128,7 +128,28 @@ impl Filesystems {
         in_slot(filesystem, slot)
     }
 
-    /// As `rename`, for a caller that has made room for the new name. It does not allocate.
+    /// As `unlink`, for a caller that was promised inodes: these stay promised.
+    pub fn unlink_promised(&mut self, directory: NodeRef, name: &[u8], object: NodeRef)
+        requires one_filesystem { object.filesystem ≡ directory.filesystem }
+        requires named { number_at (files_at self.old directory.filesystem.count).tree
+            (number_of directory) name.now ≡ Some (number_of object) }
+        requires there { is_some
+            ((files_at self.old directory.filesystem.count).tree.node (number_of object)) ≡ true }
+        requires empty { entries_in
+            ((files_at self.old directory.filesystem.count).tree.node (number_of object)) ≡ [] }
+        ensures removed { ChangesInodes directory.filesystem.count
+            (λ inodes. changed nat_eq inodes (Remove (number_of directory) name.now (number_of object)))
+            self.old self.new }
+        ensures promised { inodes_promised self.new directory.filesystem.count
+            ≡ inodes_promised self.old directory.filesystem.count }
+    {
+        let parent = self.slot_of(directory).unwrap();
+        let named = self.slot_of(object).unwrap();
+        let tree = self.get_mut(directory.filesystem).unwrap();
+        tree.unlink(parent, name, named);
+    }
+
+    /// As `rename`, for a caller that has made room for the new name. It does not allocate, and what is promised stays so.
     pub fn rename_promised(
         &mut self,
         from: NodeRef,
@@ -150,10 +171,12 @@ impl Filesystems {
         requires outside { StaysOutside (inodes_at self.old from.filesystem.count) (number_of object) (number_of to) }
         requires room { length (entries_in ((files_at self.old from.filesystem.count).tree.node (number_of to)))
             < room.old }
-        ensures { ChangesInodes from.filesystem.count
+        ensures moved { ChangesInodes from.filesystem.count
             (λ inodes. changed nat_eq inodes
             (Move (number_of from) old.now (number_of to) new.items (number_of object)))
             self.old self.new }
+        ensures promised { inodes_promised self.new from.filesystem.count
+            ≡ inodes_promised self.old from.filesystem.count }
     {
         let was_in = self.slot_of(from).unwrap();
         let goes_to = self.slot_of(to).unwrap();

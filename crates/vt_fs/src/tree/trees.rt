@@ -296,8 +296,9 @@ impl Tree {
     pub fn unlink(&mut self, directory: NodeId, name: &[u8], object: NodeId)
         requires named { entry_at (tree_of self.old) directory name.now ≡ Some object }
         requires empty { entries_in ((tree_of self.old).node object) ≡ [] }
-        ensures { inodes_of self.new
+        ensures removed { inodes_of self.new
             ≡ changed nat_eq (inodes_of self.old) (Remove directory name.now object) }
+        ensures promised { self.new.promised ≡ self.old.promised }
     {
         remove_entry(&mut self.slots, directory, name);
         self.names.take(object, directory);
@@ -351,7 +352,9 @@ impl Tree {
         requires replaced { MayReplace (tree_of self.old) object (entry_at (tree_of self.old) to new.items) }
         requires outside { StaysOutside (inodes_of self.old) object to }
         requires room { length (entries_in ((tree_of self.old).node to)) < room.old }
-        ensures { inodes_of self.new ≡ changed nat_eq (inodes_of self.old) (Move from old.now to new.items object) }
+        ensures moved { inodes_of self.new
+            ≡ changed nat_eq (inodes_of self.old) (Move from old.now to new.items object) }
+        ensures promised { self.new.promised ≡ self.old.promised }
     {
         let gone = self.look(to, &new);
         place_entry(&mut self.slots, to, new, object, room);

@@ -1,4 +1,4 @@
-use Rattle.std.proofs.Common.{rules, ◌≡◌, ◌++◌, ◌∷◌, ◌∙◌, [], ap, append_assoc, List, None, reverse, subst, sym, true}
+use Rattle.std.proofs.Common.{rules, arith, ◌≡◌, ◌++◌, ◌∷◌, ◌∙◌, [], ap, append_assoc, length, length-append, List, None, reverse, subst, sym, true}
 use Rattle.vt_spec.proofs.Common.{All-head, reverse-append}
 use Rattle.vt_births.specs.Births.{copy_of, is_born_below}
 use Rattle.vt_copyup.specs.Made.{AreMade}
@@ -127,3 +127,10 @@ pub returns-clause-filesystem : goal.returns-clause-filesystem
 returns-clause-filesystem c =
     let made = c.loop-piece.invariant.made in
     ap (λ (l : InodeRef). l.filesystem) made.is_last ∙ last_filesystem made.made c.args.self.directory
+
+pub returns-clause-room : goal.returns-clause-room
+returns-clause-room c = λ none.
+    let popped : c.args.self.pieces.items ≡ c.pop.new.self.items ++ c.in-Some.first ∷ [] = search rules in
+    let longer = length-append c.pop.new.self.items (c.in-Some.first ∷ []) in
+    let many = ap length (sym none ∙ popped) in
+    absurd (let no : ⊥ = omega (arith, longer, many) in no)

@@ -2,10 +2,10 @@ use Rattle.std.proofs.Common.{is_some, ap, length, subst, sym, ℕ, ◌<◌, ◌
 use Rattle.vt_spec.proofs.Common.{Move, entries_in, is_directory_node}
 use Rattle.vt_location.specs.Locations.{number_of}
 use Rattle.vt_location.specs.declared.numbers.FilesystemId.{FilesystemId}
-use Rattle.vt_fs.specs.FilesystemsValue.{files_at}
+use Rattle.vt_fs.specs.FilesystemsValue.{files_at, with_tree}
 use Rattle.vt_location.specs.Numbers.{exchanged}
 use Rattle.vt_fs.proofs.Nowhere.{directory_has_slot, inode_has_slot, parent_has_slot, slot_there}
-use Rattle.vt_fs.proofs.Standing.{changes, directory_exists, directory_there, outside_there, plain_there, replaced_there, slot_named, standing_of}
+use Rattle.vt_fs.proofs.Standing.{at_look, changes, directory_exists, directory_there, found_with, outside_there, plain_there, replaced_there, slot_named, standing_of}
 use Rattle.vt_fs.proofs.filesystems.Filesystems.rename_promised.Goals as goal
 
 pub unwrap-was_in-requires : goal.unwrap-was_in-requires
@@ -101,8 +101,8 @@ rename_promised-requires-clause-room c =
     (plain_there c.args.self.now f c.unwrap-tree.result.now standing.found ℕ (λ A node. length (entries_in node))
     c.unwrap-goes_to.result _ to) c.requires.room
 
-pub returns : goal.returns
-returns c =
+pub returns-clause-moved : goal.returns-clause-moved
+returns-clause-moved c =
     let f = c.args.from.filesystem.count in
     let standing =
     standing_of c.args.self.now f c.get_mut.result c.unwrap-tree.result c.get_mut.ensures.value c.get_mut.ensures.apart
@@ -117,4 +117,16 @@ returns c =
     let object = ap (λ id. exchanged id.count c.unwrap-named.result) (sym c.requires.of_object) ∙ named in
     changes c.args.self.now f c.rename_promised.new.self c.unwrap-tree.result.now standing
     (Move c.unwrap-was_in.result c.args.old.now c.unwrap-goes_to.result c.args.new.items c.unwrap-named.result) _
-    (λ i. Move (was_in i) c.args.old.now (to i) c.args.new.items (object i)) c.rename_promised.ensures
+    (λ i. Move (was_in i) c.args.old.now (to i) c.args.new.items (object i)) c.rename_promised.ensures.moved
+
+pub returns-clause-promised : goal.returns-clause-promised
+returns-clause-promised c =
+    let f = c.args.from.filesystem.count in
+    let new = c.rename_promised.new.self in
+    let standing =
+    standing_of c.args.self.now f c.get_mut.result c.unwrap-tree.result c.get_mut.ensures.value c.get_mut.ensures.apart
+    c.unwrap-tree.ensures in
+    at_look (with_tree f new c.args.self.now) f new
+    (found_with c.args.self.now f new c.unwrap-tree.result.now standing.found) (λ count tree. tree.promised)
+    ∙ c.rename_promised.ensures.promised
+    ∙ sym (at_look c.args.self.now f c.unwrap-tree.result.now standing.found (λ count tree. tree.promised))

@@ -2,7 +2,7 @@ use Rattle.std.proofs.Common.{◌≡◌, ℕ, Some, arith, nat_eq, ap, length, s
 use Rattle.vt_spec.proofs.Common.{Inodes, entries_in, entry_at, is_sorted, name_cmp, node_with_entry, node_with_parent, node_without_entry, tree_of as nodes_of, with_changed}
 use Rattle.vt_spec.specs.Inodes.{without_replaced}
 use Rattle.vt_fs.specs.Trees.Slots.{inodes_in, slots_len}
-use Rattle.vt_fs.specs.Trees.TreeValue.{inodes_of, tree_of}
+use Rattle.vt_fs.specs.Trees.TreeValue.{TreeValue, inodes_of, tree_of}
 use Rattle.vt_fs.proofs.tree.MoveLemmas.{moved, replaced_other}
 use Rattle.vt_fs.proofs.tree.NamesKept.{counted_as, name_moved, named_listed, replaced_keeps}
 use Rattle.vt_fs.proofs.tree.NameCounts.{most_weaker, one_if_some}
@@ -41,16 +41,22 @@ pub place_entry-requires : goal.place_entry-requires
 place_entry-requires c = subst (λ value. length (entries_in ((tree_of value).node c.args.to)) < c.args.room.now)
     (sym c.self.view_is) c.requires.room
 
-pub returns-in-Some : goal.returns-in-Some
-returns-in-Some c =
-    let path = (goal.at.returns-in-Some c).After-set_parent in
+pub returns-in-Some-clause-moved : goal.returns-in-Some-clause-moved
+returns-in-Some-clause-moved c =
+    let path = (goal.at.returns-in-Some-clause-moved c).After-set_parent in
     c.remove_object.ensures.removed c.self.inside.root
     ∙ ap (λ inodes. without_replaced nat_eq inodes (Some c.in-Some.inode)) (placed path)
     ∙ ap (without_replaced nat_eq (with_entries_moved path)) (sym c.in-Some.is ∙ replaced path)
 
-pub returns-in_default : goal.returns-in_default
-returns-in_default c =
-    let path = (goal.at.returns-in_default c).After-set_parent in
+pub returns-in-Some-clause-promised : goal.returns-in-Some-clause-promised
+returns-in-Some-clause-promised c = ap (λ (value : TreeValue). value.promised) c.self.view_is
+
+pub returns-in_default-clause-promised : goal.returns-in_default-clause-promised
+returns-in_default-clause-promised c = ap (λ (value : TreeValue). value.promised) c.self.view_is
+
+pub returns-in_default-clause-moved : goal.returns-in_default-clause-moved
+returns-in_default-clause-moved c =
+    let path = (goal.at.returns-in_default-clause-moved c).After-set_parent in
     placed path ∙ ap (without_replaced nat_eq (with_entries_moved path)) (sym c.in_default.is ∙ replaced path)
 
 -- the old name is listed

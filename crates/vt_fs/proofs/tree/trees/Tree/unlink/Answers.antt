@@ -4,16 +4,19 @@ use Rattle.vt_spec.specs.Inodes.{without_replaced}
 use Rattle.vt_fs.specs.Trees.TreeValue.{inodes_of}
 use Rattle.vt_fs.proofs.tree.NamesKept.{counted_as, name_less, replaced_keeps}
 use Rattle.vt_fs.specs.Trees.Slots.{inodes_in}
-use Rattle.vt_fs.specs.Trees.TreeValue.{tree_of}
+use Rattle.vt_fs.specs.Trees.TreeValue.{TreeValue, tree_of}
 use Rattle.vt_fs.proofs.tree.PromisedKept.{promised_kept}
 use Rattle.vt_fs.proofs.tree.trees.Tree.unlink.Goals as goal
 
-pub returns : goal.returns
-returns c = c.remove_object.ensures.removed c.self.inside.root
+pub returns-clause-removed : goal.returns-clause-removed
+returns-clause-removed c = c.remove_object.ensures.removed c.self.inside.root
     ∙ ap (λ inodes. without_replaced nat_eq inodes (Some c.args.object))
     (c.remove_entry.ensures.removed c.self.inside.root) ∙ ap (λ value. without_replaced nat_eq
     (with_changed nat_eq (inodes_of value) c.args.directory (node_without_entry c.args.name.now))
     (Some c.args.object)) c.self.view_is
+
+pub returns-clause-promised : goal.returns-clause-promised
+returns-clause-promised c = ap (λ (value : TreeValue). value.promised) c.self.view_is
 
 -- a name less, and a use
 pub invariant_of-self : goal.invariant_of-self

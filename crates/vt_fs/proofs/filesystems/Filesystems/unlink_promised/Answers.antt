@@ -2,11 +2,11 @@ use Rattle.std.proofs.Common.{is_some, ap, sym, ◌∙◌}
 use Rattle.vt_spec.proofs.Common.{Remove}
 use Rattle.vt_location.specs.Locations.{number_of}
 use Rattle.vt_location.specs.declared.numbers.FilesystemId.{FilesystemId}
-use Rattle.vt_fs.specs.FilesystemsValue.{files_at}
+use Rattle.vt_fs.specs.FilesystemsValue.{files_at, with_tree}
 use Rattle.vt_location.specs.Numbers.{exchanged}
 use Rattle.vt_fs.proofs.Nowhere.{inode_has_slot, parent_has_slot, slot_there}
-use Rattle.vt_fs.proofs.Standing.{changes, empty_there, named_exists, slot_named, standing_of}
-use Rattle.vt_fs.proofs.filesystems.Filesystems.unlink.Goals as goal
+use Rattle.vt_fs.proofs.Standing.{at_look, changes, empty_there, found_with, named_exists, slot_named, standing_of}
+use Rattle.vt_fs.proofs.filesystems.Filesystems.unlink_promised.Goals as goal
 
 pub unwrap-parent-requires : goal.unwrap-parent-requires
 unwrap-parent-requires c =
@@ -53,8 +53,8 @@ unlink-requires-clause-empty c =
     empty_there c.args.self.now f c.unwrap-tree.result.now standing.found c.unwrap-named.result _ object
     c.requires.empty
 
-pub returns : goal.returns
-returns c =
+pub returns-clause-removed : goal.returns-clause-removed
+returns-clause-removed c =
     let f = c.args.directory.filesystem.count in
     let standing =
     standing_of c.args.self.now f c.get_mut.result c.unwrap-tree.result c.get_mut.ensures.value c.get_mut.ensures.apart
@@ -66,4 +66,16 @@ returns c =
     let object = ap (λ id. exchanged id.count c.unwrap-named.result) (sym c.requires.one_filesystem) ∙ named_slot in
     changes c.args.self.now f c.unlink.new.self c.unwrap-tree.result.now standing
     (Remove c.unwrap-parent.result c.args.name.now c.unwrap-named.result) _
-    (λ i. Remove (parent i) c.args.name.now (object i)) c.unlink.ensures
+    (λ i. Remove (parent i) c.args.name.now (object i)) c.unlink.ensures.removed
+
+pub returns-clause-promised : goal.returns-clause-promised
+returns-clause-promised c =
+    let f = c.args.directory.filesystem.count in
+    let new = c.unlink.new.self in
+    let standing =
+    standing_of c.args.self.now f c.get_mut.result c.unwrap-tree.result c.get_mut.ensures.value c.get_mut.ensures.apart
+    c.unwrap-tree.ensures in
+    at_look (with_tree f new c.args.self.now) f new
+    (found_with c.args.self.now f new c.unwrap-tree.result.now standing.found) (λ count tree. tree.promised)
+    ∙ c.unlink.ensures.promised
+    ∙ sym (at_look c.args.self.now f c.unwrap-tree.result.now standing.found (λ count tree. tree.promised))
