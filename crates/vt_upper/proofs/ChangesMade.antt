@@ -241,7 +241,7 @@ module _ (fresh : Fresh ℕ) (mounter : Credentials) (merge : Merge ℕ) (trees 
               ∙ map_twice (λ (copy : PlannedCopy). copy.node) (λ (one : Made). one.copy) made;
         }
 
-    object_is : object_of fresh stack merge.upper (Named path) ≡ inode_of (last_made plan.directory made)
+    pub object_is : object_of fresh stack merge.upper (Named path) ≡ inode_of (last_made plan.directory made)
     object_is = ap (λ p. unwrap_or (led_above stack merge.upper p) (fresh (length p))) (sym alike.whole_path)
         ∙ last_so fresh stack merge.upper f alike.copies made is.front plan.directory.slot
         (ap (λ o. unwrap_or o (fresh (length is.front))) alike.led) alike.planned alike.same_names handed
@@ -252,7 +252,7 @@ module _ (fresh : Fresh ℕ) (mounter : Credentials) (merge : Merge ℕ) (trees 
         ∙ copies_in_turn fresh stack merge whole new is.front (inode_of plan.directory) alike.copies alike.led
         alike.planned
 
-  copied_whole : (is : IsPlanOf true trees upper lowers overlay path plan)
+  pub copied_whole : (is : IsPlanOf true trees upper lowers overlay path plan)
       → AreHanded fresh f.count (length is.front) made
       → copied_to fresh stack merge.upper path
       ≡ made_in_turn merge.upper (inode_of plan.directory) (made_copies f.count made)
@@ -329,7 +329,7 @@ module _ (fresh : Fresh ℕ) (stack : Stack ℕ) (merge : Merge ℕ) (whole : Is
   row_above (Bytes bytes) place at = λ i. changed_node nat_eq (sym (copies_above place at) i)
       (sym (object_above place at) i) (node_with_bytes bytes.items)
 
-no_copies : (made : List Made) → map (λ (one : Made). one.copy) made ≡ [] → made ≡ []
+pub no_copies : (made : List Made) → map (λ (one : Made). one.copy) made ≡ [] → made ≡ []
 no_copies [] same = refl
 no_copies (one ∷ made) same = absurd cc
 

@@ -19,15 +19,12 @@ use Rattle.vt_overlay.specs.Alike.{lent_at}
 use Rattle.vt_overlay.specs.declared.merge.layers.LayerRef.{LayerRef}
 use Rattle.vt_overlay.specs.declared.merge.layers.Real.{Real as Object}
 use Rattle.vt_overlay.specs.Merge.LayerValue.{layer_of, layers_of, seen_of}
-use Rattle.vt_upper.specs.Changes.{IsFit}
 use Rattle.vt_upper.specs.Copies.{AreCopiesOf, IsLastFit, IsLastOf}
 use Rattle.vt_upper.specs.Copies.AreCopiesOf.{is_above, is_below}
-use Rattle.vt_upper.specs.declared.changing.ObjectChange.{ObjectChange}
 use Rattle.vt_upper_overlay.specs.MergedAbove.{lent, number_at, object_lent}
 use Rattle.vt_upper_overlay.specs.UpperValue.{UpperOverlayValue, real_at}
 use Rattle.vt_upper_overlay.proofs.Objects.{real_shown_at}
 use Rattle.vt_upper_overlay.proofs.Shown.{IsLooked, shown_node}
-use Rattle.vt_upper.proofs.LastMade.{fit_of}
 use Rattle.vt_upper.proofs.PlansOf.{AreSplit, split_layers}
 use Rattle.std.proofs.Common.{⊎_elim}
 
@@ -51,7 +48,7 @@ copied_kind with_bytes node = by with_bytes node.content
     by false Whiteout = refl
 
 -- where the first layer has an object, it decides
-shown_first : (trees : Filesystems) (layers : List LayerRef) (top : LayerRef) → slice_get layers 0 ≡ Some top
+pub shown_first : (trees : Filesystems) (layers : List LayerRef) (top : LayerRef) → slice_get layers 0 ≡ Some top
     → (path : List (List ℕ)) (object : ℕ) → at_path (layer_of trees top) path ≡ Some object
     → shown (layers_of trees layers) path
     ≡ when (not (is_kind_in White ((files_at trees top.directory.filesystem.count).tree.node object)))
@@ -69,7 +66,8 @@ when_some : (b : Bool) (seen : Shown ℕ) → IsSome (when b seen) → when b se
 when_some true seen some = refl
 when_some false seen some = absurd (true≢false (sym some))
 
-module _ (trees : Filesystems) (overlay : UpperOverlayValue) (change : ObjectChange) where
+module _ (trees : Filesystems) (overlay : UpperOverlayValue) (Fits : Option (Node ℕ) → Type 0)
+    (fits_kind : (a b : Option (Node ℕ)) → is_directory_node a ≡ is_directory_node b → Fits a → Fits b) where
   abbrev layers : List (OpenLayer ℕ)
   layers = layers_of trees overlay.layers.lowers
 
@@ -90,15 +88,15 @@ module _ (trees : Filesystems) (overlay : UpperOverlayValue) (change : ObjectCha
 
   -- the last of copies is that of the object
   last_fit : (with_bytes : Bool) (path : List (List ℕ)) (node : Option (Node ℕ))
-      → IsFit change (then_some (shown layers path) (layer_node layers)) → (piece : Piece) (rest : List Piece)
+      → Fits (then_some (shown layers path) (layer_node layers)) → (piece : Piece) (rest : List Piece)
       (front : List (List ℕ))
       → AreCopiesFrom with_bytes trees overlay.layers.lowers overlay.layers.number front (piece ∷ rest)
-      → front ++ names_of (piece ∷ rest) ≡ path → IsLastOf (IsFit change) (piece ∷ rest) node
-  last_fit with_bytes path node fit piece [] front copies whole =
+      → front ++ names_of (piece ∷ rest) ≡ path → IsLastOf Fits Fits (piece ∷ rest) node
+  last_fit with_bytes path _ fit piece [] front copies whole =
       let copy = copies.0 in
       let is : then_some (shown layers path) (layer_node layers) ≡ Some copy.inode =
       ap (λ p. then_some (shown layers p) (layer_node layers)) (sym whole) ∙ copy.shows in
-      fit_of change (then_some (shown layers path) (layer_node layers)) (Some piece.copy.node)
+      fits_kind (then_some (shown layers path) (layer_node layers)) (Some piece.copy.node)
       (ap is_directory_node is ∙ copied_kind with_bytes copy.inode ∙ ap (λ n. is_directory_node (Some n)) (sym copy.node))
       fit
   last_fit with_bytes path node fit piece (next ∷ rest) front copies whole =
@@ -106,7 +104,7 @@ module _ (trees : Filesystems) (overlay : UpperOverlayValue) (change : ObjectCha
       (append_assoc front (piece.copy.name.items ∷ []) (names_of (next ∷ rest)) ∙ whole)
 
   module _ (looked : IsLooked trees overlay) (node : NodeRef) (node_small : IsSmall node)
-      (fit : IsFit change (object_lent trees overlay node)) where
+      (fit : Fits (object_lent trees overlay node)) where
     abbrev split : AreSplit overlay.layers.lowers
     split = split_layers overlay.layers.lowers looked.stands.upper
 
@@ -123,8 +121,8 @@ module _ (trees : Filesystems) (overlay : UpperOverlayValue) (change : ObjectCha
         (slice_get-map (layer_of trees) overlay.layers.lowers 0 ∙ ap (option_map (layer_of trees)) first_is)
 
     fit_shown : (o : Option (Shown ℕ)) → option_map seen_of (real_at overlay node) ≡ o
-        → IsFit change (then_some o (layer_node layers))
-    fit_shown o e = fit_of change (object_lent trees overlay node) (then_some o (layer_node layers))
+        → Fits (then_some o (layer_node layers))
+    fit_shown o e = fits_kind (object_lent trees overlay node) (then_some o (layer_node layers))
         (lent_kind (option_map seen_of (real_at overlay node)) ∙ ap (λ o. is_directory_node
         (then_some o (layer_node layers))) e) fit
 
@@ -134,12 +132,12 @@ module _ (trees : Filesystems) (overlay : UpperOverlayValue) (change : ObjectCha
           → number_at trees overlay path ≡ Some (number_of node)
           → IsPlanOf with_bytes trees top split.lowers overlay.layers.number path plan
           → files_at after plan.directory.filesystem.count ≡ files_at trees top.directory.filesystem.count
-          → IsLastFit (IsFit change) plan after
+          → IsLastFit Fits plan after
       fit_below with_bytes plan path numbered is same = by (in_turn plan) is.whole
           (subst (λ l. AreCopiesFrom with_bytes trees l overlay.layers.number is.front (in_turn plan)) (sym split.is)
           is.copies)
         where
-          fit_path : IsFit change (then_some (shown layers path) (layer_node layers))
+          fit_path : Fits (then_some (shown layers path) (layer_node layers))
           fit_path = fit_shown (shown layers path) (real_shown_at trees overlay looked node node_small path numbered)
 
           some : IsSome (shown layers path)
@@ -148,7 +146,7 @@ module _ (trees : Filesystems) (overlay : UpperOverlayValue) (change : ObjectCha
 
           by : (pieces : List Piece) → is.front ++ names_of pieces ≡ path
               → AreCopiesFrom with_bytes trees overlay.layers.lowers overlay.layers.number is.front pieces
-              → IsLastOf (IsFit change) pieces
+              → IsLastOf Fits Fits pieces
               ((files_at after plan.directory.filesystem.count).tree.node (inode_of plan.directory))
           by [] whole copies =
               let here = shown_first trees overlay.layers.lowers top first_is path (inode_of plan.directory)
@@ -156,7 +154,7 @@ module _ (trees : Filesystems) (overlay : UpperOverlayValue) (change : ObjectCha
               let all = here ∙ when_some (not (is_kind_in White
               ((files_at trees top.directory.filesystem.count).tree.node (inode_of plan.directory))))
               (record { layer = 0; object = inode_of plan.directory }) (subst IsSome here some) in
-              subst (IsFit change) (ap (λ o. then_some o (layer_node layers)) all
+              subst Fits (ap (λ o. then_some o (layer_node layers)) all
               ∙ node_above (inode_of plan.directory)
               ∙ ap (λ (files : Rattle.vt_spec.proofs.Common.FileTree ℕ). files.tree.node (inode_of plan.directory))
               (sym same)) fit_path
@@ -167,21 +165,21 @@ module _ (trees : Filesystems) (overlay : UpperOverlayValue) (change : ObjectCha
       fit_above : (plan : Plan) (real : Object) → real_at overlay node ≡ Some real → real.layer ≡ 0
           → plan.directory ≡ real.inode → plan.pieces.items ≡ []
           → files_at after plan.directory.filesystem.count ≡ files_at trees top.directory.filesystem.count
-          → IsLastFit (IsFit change) plan after
+          → IsLastFit Fits plan after
       fit_above plan real is zero directory none same =
           let seen : option_map seen_of (real_at overlay node)
           ≡ Some (record { layer = 0; object = inode_of plan.directory }) =
           ap (option_map seen_of) is
           ∙ (λ i. Some (record { layer = zero i; object = inode_of (sym directory i) })) in
-          subst (λ pieces. IsLastOf (IsFit change) (reverse pieces)
+          subst (λ pieces. IsLastOf Fits Fits (reverse pieces)
           ((files_at after plan.directory.filesystem.count).tree.node (inode_of plan.directory))) (sym none)
-          (subst (IsFit change) (node_above (inode_of plan.directory)
+          (subst Fits (node_above (inode_of plan.directory)
           ∙ ap (λ (files : Rattle.vt_spec.proofs.Common.FileTree ℕ). files.tree.node (inode_of plan.directory)) (sym same))
           (fit_shown (Some (record { layer = 0; object = inode_of plan.directory })) seen))
 
       pub fit_copies : (with_bytes : Bool) (plan : Plan) → AreCopiesOf with_bytes trees overlay node plan
           → files_at after plan.directory.filesystem.count ≡ files_at trees top.directory.filesystem.count
-          → IsLastFit (IsFit change) plan after
+          → IsLastFit Fits plan after
       fit_copies with_bytes plan (is_above _ real is zero directory none) same =
           fit_above plan real is zero directory none same
       fit_copies with_bytes plan (is_below _ path numbered planned) same =

@@ -14,7 +14,7 @@ use Rattle.vt_upper.specs.declared.changing.ObjectChange.{ObjectChange}
 use Rattle.vt_upper.specs.declared.changing.ObjectChange.TheVariants.{Attr, Bytes, Copied}
 
 -- a node is changed, and none comes or goes
-record KeepsNodes (change : Option (Node ℕ) → Option (Node ℕ)) : Type 0 where
+pub record KeepsNodes (change : Option (Node ℕ) → Option (Node ℕ)) : Type 0 where
   pub none : change None ≡ None
   pub some : (node : Node ℕ) → is_some (change (Some node)) ≡ true
 
@@ -35,7 +35,7 @@ module _ (change : Option (Node ℕ) → Option (Node ℕ)) (keeps : KeepsNodes 
         by None e = absurd cc
         by (Some node) e = refl
 
-    tree_changed : tree_of (counting.with_changed nat_eq inodes object change)
+    pub tree_changed : tree_of (counting.with_changed nat_eq inodes object change)
         ≡ with_node nat_eq (tree_of inodes) object (change ((tree_of inodes).node object))
     tree_changed = λ i. record { root = inodes.root; node = λ number. by number (nat_eq number object) i }
       where

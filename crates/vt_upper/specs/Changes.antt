@@ -30,8 +30,8 @@ keeps_bytes (Bytes bytes) = false
 
 -- a directory is not written, nor is any file past its limit
 abbrev pub IsFit : ObjectChange → Option (Node ℕ) → Type 0
-IsFit Copied node = ⊤
-IsFit (Attr attr) node = ⊤
+IsFit Copied _ = ⊤
+IsFit (Attr attr) _ = ⊤
 IsFit (Bytes bytes) node = (is_directory_node node ≡ false) × (length bytes.items ≤ largest_file)
 
 -- The copies were made, with their births, and then a row of changes of the object; of the trees only that of the upper

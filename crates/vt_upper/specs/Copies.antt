@@ -24,13 +24,15 @@ pub data AreCopiesOf (with_bytes : Bool) (trees : Filesystems) (overlay : UpperO
       → IsPlanOf with_bytes trees upper lowers overlay.layers.number path plan)
       → AreCopiesOf with_bytes trees overlay node plan
 
+-- What is said of the inode that is copied last, or, where there are no copies, of the one that is there.
+abbrev pub IsLastOf : (IsCopied IsThere : Option (Node ℕ) → Type 0) → List Piece → Option (Node ℕ) → Type 0
+IsLastOf IsCopied IsThere [] node = IsThere node
+IsLastOf IsCopied IsThere (piece ∷ []) _ = IsCopied (Some piece.copy.node)
+IsLastOf IsCopied IsThere (piece ∷ next ∷ rest) node = IsLastOf IsCopied IsThere (next ∷ rest) node
+
 -- The object fits once it is in the upper layer: as its last copy, or as it is there.
-abbrev pub IsLastOf : (Option (Node ℕ) → Type 0) → List Piece → Option (Node ℕ) → Type 0
-IsLastOf Fits [] node = Fits node
-IsLastOf Fits (piece ∷ []) node = Fits (Some piece.copy.node)
-IsLastOf Fits (piece ∷ next ∷ rest) node = IsLastOf Fits (next ∷ rest) node
 
 abbrev pub IsLastFit : (Option (Node ℕ) → Type 0) → Plan → Filesystems → Type 0
 IsLastFit Fits plan trees =
-    IsLastOf Fits (in_turn plan)
+    IsLastOf Fits Fits (in_turn plan)
     ((files_at trees plan.directory.filesystem.count).tree.node (inode_of plan.directory))

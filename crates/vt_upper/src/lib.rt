@@ -5,6 +5,11 @@
 mod changing;
 mod copying;
 mod laws;
+mod lowers;
+mod making;
+mod removing;
 
 pub use changing::{ChangePlan, ObjectChange};
-pub use laws::changes_are_made;
+pub use laws::{changes_are_made, new_objects_are_made, removals_are_made};
+pub use making::{NamedNode, NewPlan};
+pub use removing::RemovalPlan;

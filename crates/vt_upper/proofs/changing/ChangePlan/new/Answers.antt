@@ -6,7 +6,9 @@ use Rattle.vt_fs.specs.FilesystemsValue.{files_at, promising, with_changed}
 use Rattle.vt_location.specs.declared.numbers.FilesystemId.{FilesystemId}
 use Rattle.vt_location.proofs.NodeLemmas.{small_parts}
 use Rattle.vt_upper_overlay.proofs.Shown.{looked_by}
+use Rattle.vt_upper.specs.Changes.{IsFit}
 use Rattle.vt_upper.proofs.FitCopies.{fit_copies}
+use Rattle.vt_upper.proofs.LastMade.{fit_of}
 use Rattle.vt_upper.proofs.PlansOf.{count_is, is_first}
 use Rattle.vt_upper.proofs.changing.ChangePlan.new.Goals as goal
 
@@ -37,7 +39,7 @@ returns-clause-fit c =
     let inodes : c.promise.new.trees ≡ with_changed f (promising n) trees =
     c.in_ok-promise.ensures.inodes
     ∙ ap (λ (id : FilesystemId). with_changed id.count (promising n) trees) c.filesystem.ensures in
-    fit_copies trees overlay c.args.change looked
+    fit_copies trees overlay (IsFit c.args.change) (fit_of c.args.change) looked
     object (small_parts object small) c.requires.fit c.promise.new.trees c.keeps_bytes.result copies
     c.in_ok-copies.ensures.copies
     (ap (λ t. files_at t f) inodes ∙ promised_files f n trees

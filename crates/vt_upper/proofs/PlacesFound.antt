@@ -1,0 +1,329 @@
+-- The directory in which an inode is made, and what has the name there.
+use Rattle.std.proofs.Common.{◌≡◌, ◌∙◌, ◌+◌, ◌<◌, ◌≤◌, ◌++◌, ◌∷◌, [], ap, append-nil, arith, Bool, eqb-true, false, IfOk, IfSome, is_some, IsSome, length, List, map, nat_eq, None, not, option_map, Option, refl, reverse, slice_get, Some, subst, suc, sym, true, true≢false, zero, ⊎_elim, ℕ}
+use Rattle.std.specs.Prelude.{Result}
+use Rattle.std.specs.declared.result.Result.TheVariants.{Ok, Err}
+use Rattle.vt_spec.proofs.Common.{Content, FileTree, Inodes, IsDirectory, IsTree, Node, Shown, Tree, at_path, entries_in, entry_at, is_directory_node, is_kind_in, led-append, length-reverse, same_Some, shown, tree_of, when}
+use Rattle.vt_spec.specs.Inodes.{changed}
+use Rattle.vt_spec.specs.Lists.{folded}
+use Rattle.vt_spec.specs.declared.attributes.Kind.TheVariants.{White}
+use Rattle.vt_spec.specs.Tree.Content.{Directory, Regular, Symlink, Whiteout}
+use Rattle.vt_births.specs.Births.{BirthsValue}
+use Rattle.vt_copyup.specs.declared.plans.Piece.{Piece}
+use Rattle.vt_copyup.specs.declared.plans.Plan.{Plan}
+use Rattle.vt_copyup.specs.Planned.{names_of}
+use Rattle.vt_copyup.specs.Plans.{EntriesAreThere, IsReady, in_turn, many}
+use Rattle.vt_copyup.proofs.Changed.{is_there, promised_files, promised_more}
+use Rattle.vt_copyup.proofs.Ready.{entries_are_there}
+use Rattle.vt_fs.specs.FilesystemsValue.{Filesystems, entry_of, files_at, inodes_at, inodes_promised, no_entry, promising, with_changed}
+use Rattle.vt_fs.specs.FilesystemsValue as fs
+use Rattle.vt_laws_upper_layers.specs.Rows.{removal}
+use Rattle.vt_location.specs.declared.locations.InodeRef.{InodeRef}
+use Rattle.vt_location.specs.declared.locations.NodeRef.{NodeRef}
+use Rattle.vt_location.specs.Locations.{inode_of, number_of}
+use Rattle.vt_location.specs.NodeNumbers.{IsSmall}
+use Rattle.vt_overlay.specs.declared.merge.layers.LayerRef.{LayerRef}
+use Rattle.vt_overlay.specs.declared.merge.layers.Real.{Real as Object}
+use Rattle.vt_overlay.specs.Merge.LayerValue.{layer_of, layers_of, seen_of}
+use Rattle.vt_upper.specs.Copies.{AreCopiesOf, IsLastFit, IsLastOf}
+use Rattle.vt_upper.specs.Copies.AreCopiesOf.{is_above, is_below}
+use Rattle.vt_upper.specs.declared.making.Place.{Place}
+use Rattle.vt_upper.specs.declared.making.Place.TheVariants.{Copied, There}
+use Rattle.vt_upper.specs.New.{HasName, IsAbove, IsBare, IsCopiedFrom, IsLeft, IsPlaceReady, IsThereReady, MayMakeIn, MayPutIn}
+use Rattle.vt_upper.proofs.BornBelow.{at_its_path}
+use Rattle.vt_upper.proofs.FitCopies.{fit_copies, shown_first}
+use Rattle.vt_upper.proofs.PlansOf.{AreSplit, count_is, is_first, split_layers}
+use Rattle.vt_upper_overlay.specs.MergedAbove.{number_at, object_lent, object_shown, upper_count}
+use Rattle.vt_upper_overlay.specs.Standing.{StandsAbove}
+use Rattle.vt_upper_overlay.specs.UpperValue.{UpperOverlayValue, real_at}
+use Rattle.vt_upper_overlay.proofs.Objects.{real_shown_at}
+use Rattle.vt_upper_overlay.proofs.Shown.{IsLooked, shown_node}
+use Rattle.vt_upper_overlay.proofs.Shown as shows
+
+abbrev IsADirectory : Option (Node ℕ) → Type 0
+IsADirectory node = is_directory_node node ≡ true
+
+directory_kind : (a b : Option (Node ℕ)) → is_directory_node a ≡ is_directory_node b → IsADirectory a → IsADirectory b
+directory_kind a b same is = sym same ∙ is
+
+-- the inodes stay as they are where inodes are promised
+module _ (count inodes : ℕ) where
+  promised_entry : (trees : Filesystems)
+      → entry_of (with_changed count (promising inodes) trees) count
+      ≡ option_map (promising inodes) (entry_of trees count)
+  promised_entry [] = refl
+  promised_entry (entry ∷ rest) = by (nat_eq count entry.count) refl (promised_entry rest)
+    where
+      by : (b : Bool) → nat_eq count entry.count ≡ b
+          → entry_of (with_changed count (promising inodes) rest) count
+          ≡ option_map (promising inodes) (entry_of rest count)
+          → entry_of (with_changed count (promising inodes) (entry ∷ rest)) count
+          ≡ option_map (promising inodes) (entry_of (entry ∷ rest) count)
+      by b e after = grind (arith, Rattle.vt_spec.proofs.Common.common_steps)
+
+  pub promised_inodes : (trees : Filesystems)
+      → inodes_at (with_changed count (promising inodes) trees) count ≡ inodes_at trees count
+  promised_inodes trees = ap (λ o. fs.inodes_seen
+      (Rattle.std.specs.Prelude.unwrap_or o (no_entry count))) (promised_entry trees) ∙ by (entry_of trees count)
+    where
+      by : (o : Option fs.FilesystemEntry)
+          → fs.inodes_seen (Rattle.std.specs.Prelude.unwrap_or (option_map (promising inodes) o) (no_entry count))
+          ≡ fs.inodes_seen (Rattle.std.specs.Prelude.unwrap_or o (no_entry count))
+      by None = refl
+      by (Some entry) = refl
+
+-- a whiteout is there, has no entries, and is no directory
+record IsWhite (node : Option (Node ℕ)) : Type 0 where
+  there : is_some node ≡ true
+  empty : entries_in node ≡ []
+  other : is_directory_node node ≡ false
+
+white_so : (node : Option (Node ℕ)) → is_kind_in White node ≡ true → IsWhite node
+white_so None is = absurd (true≢false (sym is))
+white_so (Some node) is = by node.content is
+  where
+    by : (content : Content ℕ) → is_kind_in White (Some (record { attr = node.attr; content = content })) ≡ true
+        → IsWhite (Some (record { attr = node.attr; content = content }))
+    by (Directory parent entries opaque) is = absurd (true≢false (sym is))
+    by (Regular bytes) is = absurd (true≢false (sym is))
+    by (Symlink text) is = absurd (true≢false (sym is))
+    by Whiteout is = record { there = refl; empty = refl; other = refl }
+
+-- what is not shown
+when_none : (b : Bool) (seen : Shown ℕ) → when (not b) seen ≡ None → b ≡ true
+when_none true seen none = refl
+when_none false seen none = absurd (true≢false (ap is_some none))
+
+different : (tree : Tree ℕ) (directory number : ℕ) → IsDirectory tree directory
+    → is_directory_node (tree.node number) ≡ false → nat_eq directory number ≡ false
+different tree directory number is other = by (nat_eq directory number) refl
+  where
+    by : (b : Bool) → nat_eq directory number ≡ b → nat_eq directory number ≡ false
+    by false e = e
+    by true e = absurd (true≢false (sym is ∙ ap (λ n. is_directory_node (tree.node n)) (eqb-true directory number e)
+        ∙ other))
+
+-- with copies, nothing is said of what is there
+copies_last : (IsCopied IsThere IsOther : Option (Node ℕ) → Type 0) (pieces : List Piece) (node other : Option (Node ℕ))
+    → 0 < length pieces → IsLastOf IsCopied IsThere pieces node → IsLastOf IsCopied IsOther pieces other
+copies_last IsCopied IsThere IsOther [] _ other some is = absurd (let no : ⊥ = omega (arith, some) in no)
+copies_last IsCopied IsThere IsOther (piece ∷ []) _ other some is = is
+copies_last IsCopied IsThere IsOther (piece ∷ next ∷ rest) node other some is =
+    let more : 0 < length (next ∷ rest) = omega arith in
+    copies_last IsCopied IsThere IsOther (next ∷ rest) node other more is
+
+-- no copies, and some
+none_in : {A : Type 0} (xs : List A) → length xs ≡ 0 → xs ≡ []
+none_in [] none = refl
+none_in (x ∷ xs) none = absurd (let no : ⊥ = omega (arith, none) in no)
+
+pub no_pieces : (plan : Plan) → many plan ≡ 0 → in_turn plan ≡ []
+no_pieces plan none = ap reverse (none_in plan.pieces.items none)
+
+pub some_pieces : (plan : Plan) → nat_eq (many plan) 0 ≡ false → 0 < length (in_turn plan)
+some_pieces plan some =
+    let turned = length-reverse plan.pieces.items in
+    let more = above_zero (many plan) some in omega (arith, turned, more)
+  where
+    above_zero : (n : ℕ) → nat_eq n 0 ≡ false → 0 < n
+    above_zero zero e = absurd (true≢false e)
+    above_zero (suc n) e = omega arith
+
+-- a place among copies
+pub copied_ok : {E : Type 0} (copies : Plan) (Holds : Place → Type 0) (result : Result Place E)
+    → IfOk result (IsCopiedFrom copies) → ((room : ℕ) → 0 < room → Holds (Copied copies room)) → IfOk result Holds
+copied_ok copies Holds (Err e) is holds = tt
+copied_ok copies Holds (Ok (There directory white)) is holds = absurd (true≢false (sym is))
+copied_ok copies Holds (Ok (Copied plan room)) is holds =
+    subst (λ (p : Plan). Holds (Copied p room)) (sym is.0) (holds room is.1)
+
+module _ (trees : Filesystems) (overlay : UpperOverlayValue) (looked : IsLooked trees overlay) (node : NodeRef)
+    (node_small : IsSmall node) (some : IsSome (object_shown trees overlay (number_of node)))
+    (directory : is_directory_node (object_lent trees overlay node) ≡ true) (plan : Plan)
+    (copies : AreCopiesOf true trees overlay node plan)
+    (upper_is : plan.directory.filesystem.count ≡ upper_count overlay) where
+  abbrev top : LayerRef
+  top = looked.top
+
+  abbrev f : ℕ
+  f = plan.directory.filesystem.count
+
+  abbrev tree : Tree ℕ
+  tree = (files_at trees f).tree
+
+  top_first : slice_get overlay.layers.lowers 0 ≡ Some top
+  top_first = looked.first
+
+  f_is : f ≡ top.directory.filesystem.count
+  f_is = upper_is ∙ count_is trees overlay looked.stands top top_first
+
+  layer_is_tree : IsTree tree
+  layer_is_tree = subst (λ n. IsTree (files_at trees n).tree) (sym f_is) (looked.stands.layers 0 top top_first).tree
+
+  -- the upper layer's filesystem is there, and inodes may be promised in it
+  more_promised : (inodes : ℕ)
+      → inodes_promised (with_changed f (promising inodes) trees) f ≡ inodes_promised trees f + inodes
+  more_promised inodes = promised_more f inodes trees (is_there trees f (inode_of top.directory)
+      (subst (λ n. IsDirectory (files_at trees n).tree (inode_of top.directory)) (sym f_is)
+      (looked.stands.layers 0 top top_first).directory))
+
+  pub promised_for : (inodes : ℕ) → many plan < inodes
+      → many plan < inodes_promised (with_changed f (promising inodes) trees) f
+  promised_for inodes few = let more = more_promised inodes in omega (arith, more, few)
+
+  split : AreSplit overlay.layers.lowers
+  split = split_layers overlay.layers.lowers looked.stands.upper
+
+  -- the inode that the last copy was made of, or that which is there, is a directory
+  pub last_directory : IsLastFit IsADirectory plan trees
+  last_directory = fit_copies trees overlay IsADirectory directory_kind looked node node_small directory trees true plan
+      copies (ap (files_at trees) (upper_is ∙ count_is trees overlay looked.stands _
+      (is_first trees overlay looked.stands)))
+
+  pub last_copied : 0 < length (in_turn plan)
+      → IsLastOf IsADirectory (λ node. false ≡ true) (in_turn plan) None
+  last_copied some_pieces = copies_last IsADirectory IsADirectory (λ node. false ≡ true) (in_turn plan) _ None some_pieces
+      last_directory
+
+  module _ (none : in_turn plan ≡ []) where
+    pub directory_there : IsDirectory tree (inode_of plan.directory)
+    directory_there = subst (λ pieces. IsLastOf IsADirectory IsADirectory pieces
+        (tree.node (inode_of plan.directory))) none last_directory
+
+    leads_for : (path : List (List ℕ)) (object : ℕ) (first : LayerRef)
+        → slice_get overlay.layers.lowers 0 ≡ Some first
+        → at_path (layer_of trees first) path ≡ Some object → (upper : LayerRef)
+        → slice_get overlay.layers.lowers 0 ≡ Some upper → at_path (layer_of trees upper) path ≡ Some object
+    leads_for path object first is leads upper e =
+        ap (λ (l : LayerRef). at_path (layer_of trees l) path) (same_Some upper first (sym e ∙ is)) ∙ leads
+
+    -- a path leads to it
+    pub above_found : AreCopiesOf true trees overlay node plan → IsAbove trees overlay node plan.directory
+    above_found (is_above _ real is zero_layer same nothing) =
+        ⊎_elim by_above by_below (shown_node trees overlay looked at.0 node node_small at.1)
+      where
+        at : (path : List (List ℕ)) × (number_at trees overlay path ≡ Some (number_of node))
+        at = at_its_path trees overlay looked node node_small some
+
+        seen : Some (seen_of real) ≡ shown (layers_of trees overlay.layers.lowers) at.0
+        seen = ap (option_map seen_of) (sym is) ∙ real_shown_at trees overlay looked node node_small at.0 at.1
+
+        by_above : shows.IsAbove trees overlay looked at.0 node → IsAbove trees overlay node plan.directory
+        by_above a =
+            let object : a.object ≡ inode_of plan.directory =
+            ap (λ (s : Shown ℕ). s.object) (same_Some (record { layer = 0; object = a.object }) (seen_of real)
+            (sym a.is ∙ sym seen)) ∙ ap inode_of (sym same) in
+            record {
+              path = at.0;
+              numbered = at.1;
+              leads = leads_for at.0 (inode_of plan.directory) top top_first (a.leads ∙ ap Some object);
+            }
+
+        by_below : shows.IsBelow trees overlay looked at.0 node → IsAbove trees overlay node plan.directory
+        by_below b =
+            let layer : suc b.layer ≡ real.layer = ap (λ (s : Shown ℕ). s.layer)
+            (same_Some (record { layer = suc b.layer; object = b.object }) (seen_of real) (sym b.is ∙ sym seen)) in
+            absurd (let no : ⊥ = omega (arith, layer, zero_layer) in no)
+    above_found (is_below _ path numbered planned) =
+        let is = planned split.upper split.lowers split.is in
+        let whole : is.front ≡ path = sym (append-nil is.front)
+        ∙ ap (λ pieces. is.front ++ names_of pieces) (sym none) ∙ is.whole in
+        record {
+          path = path;
+          numbered = numbered;
+          leads = leads_for path (inode_of plan.directory) split.upper (ap (λ l. slice_get l 0) split.is)
+              (ap (at_path (layer_of trees split.upper)) (sym whole) ∙ is.leads);
+        }
+
+    module _ (name : List ℕ) (may : MayPutIn trees overlay node name) (white : Option InodeRef)
+        (leads : option_map inode_of white ≡ entry_at tree (inode_of plan.directory) name)
+        (own : IfSome white (λ (w : InodeRef). w.filesystem ≡ plan.directory.filesystem)) where
+      bare_white : (w : InodeRef) → white ≡ Some w → IsBare tree plan.directory w
+      bare_white w e = may.bare plan.directory w (above_found copies) upper_is
+          (subst (λ o. IfSome o (λ (w : InodeRef). w.filesystem ≡ plan.directory.filesystem)) e own) directory_there
+          (sym leads ∙ ap (option_map inode_of) e)
+
+      all_bare : (o : Option InodeRef) → white ≡ o → IfSome o (IsBare tree plan.directory)
+      all_bare None e = tt
+      all_bare (Some w) e = bare_white w e
+
+      pub has_name : HasName tree plan.directory name white
+      has_name = record {
+        directory_there = directory_there;
+        leads = sym leads;
+        bare = all_bare white refl;
+      }
+
+      left_so : (o : Option InodeRef) → HasName tree plan.directory name o
+          → IsLeft (inodes_at trees f) plan.directory name o
+      left_so None has = entries_are_there tree layer_is_tree
+      left_so (Some w) has = may.left plan.directory w upper_is has
+
+      -- the name is as it was once inodes are promised
+      pub name_there : (inodes : ℕ) → HasName (files_at (with_changed f (promising inodes) trees) f).tree plan.directory
+          name white
+      name_there inodes = subst (λ (files : FileTree ℕ). HasName files.tree plan.directory name white)
+          (sym (promised_files f inodes trees)) has_name
+
+      -- it is ready for the name once inodes are promised
+      pub there_ready : (inodes room : ℕ) → 0 < inodes
+          → length (entries_in (tree.node (inode_of plan.directory))) + 1 ≤ room
+          → IsThereReady plan.directory white name (with_changed f (promising inodes) trees) room
+      there_ready inodes room more has_room =
+          let same = promised_files f inodes trees in
+          let promised = more_promised inodes in
+          record {
+            has_name = subst (λ (files : FileTree ℕ). HasName files.tree plan.directory name white) (sym same) has_name;
+            left = subst (λ (all : Inodes ℕ). IsLeft all plan.directory name white)
+                (sym (promised_inodes f inodes trees)) (left_so white has_name);
+            promised = omega (arith, promised, more);
+            has_room = subst (λ (files : FileTree ℕ). length (entries_in (files.tree.node (inode_of plan.directory))) < room)
+                (sym same) (omega (arith, has_room));
+          }
+
+-- where a directory shows nothing under a name, what has it in the upper layer is a whiteout
+module _ (trees : Filesystems) (overlay : UpperOverlayValue) (stands : StandsAbove trees overlay) (node : NodeRef)
+    (name : List ℕ) (may : MayMakeIn trees overlay node name) where
+  whole : AreSplit overlay.layers.lowers
+  whole = split_layers overlay.layers.lowers stands.upper
+
+  whole_first : slice_get overlay.layers.lowers 0 ≡ Some whole.upper
+  whole_first = ap (λ l. slice_get l 0) whole.is
+
+  module _ (directory w : InodeRef) (at : IsAbove trees overlay node directory)
+      (count : directory.filesystem.count ≡ upper_count overlay) (own : w.filesystem ≡ directory.filesystem)
+      (is_directory : IsDirectory (files_at trees directory.filesystem.count).tree (inode_of directory))
+      (entry : entry_at (files_at trees directory.filesystem.count).tree (inode_of directory) name
+      ≡ Some (inode_of w)) where
+    whole_count : directory.filesystem.count ≡ whole.upper.directory.filesystem.count
+    whole_count = count ∙ count_is trees overlay stands whole.upper whole_first
+
+    longer : at_path (layer_of trees whole.upper) (at.path ++ name ∷ []) ≡ Some (inode_of w)
+    longer = led-append (layer_of trees whole.upper).tree (inode_of whole.upper.directory) at.path name
+        (inode_of directory) (inode_of w) (at.leads whole.upper whole_first)
+        (ap (λ n. entry_at (files_at trees n).tree (inode_of directory) name) (sym whole_count) ∙ entry)
+
+    is_white : is_kind_in White ((files_at trees directory.filesystem.count).tree.node (inode_of w)) ≡ true
+    is_white = ap (λ n. is_kind_in White ((files_at trees n).tree.node (inode_of w))) whole_count
+        ∙ when_none (is_kind_in White ((files_at trees whole.upper.directory.filesystem.count).tree.node (inode_of w)))
+        (record { layer = 0; object = inode_of w })
+        (sym (shown_first trees overlay.layers.lowers whole.upper whole_first (at.path ++ name ∷ []) (inode_of w) longer)
+        ∙ may.free at.path at.numbered)
+
+    white_bare : IsBare (files_at trees directory.filesystem.count).tree directory w
+    white_bare =
+        let is = white_so ((files_at trees directory.filesystem.count).tree.node (inode_of w)) is_white in
+        record {
+          filesystem = own;
+          there = is.there;
+          empty = is.empty;
+          other = different (files_at trees directory.filesystem.count).tree (inode_of directory) (inode_of w)
+              is_directory is.other;
+        }
+
+  pub may_put : MayPutIn trees overlay node name
+  may_put = record {
+    shown_there = may.shown_there;
+    directory = may.directory;
+    bare = white_bare;
+    left = may.left;
+  }

@@ -1,0 +1,384 @@
+//! New objects: mkdir(2), symlink(2), open(2) with O_CREAT. A whiteout in their place goes: the kernel's overlayfs document,
+//! "whiteouts and opaque directories".
+ghost use Rattle.std.specs.Prelude.{◌≡◌, ◌+◌, ◌++◌, ◌<◌, ◌≤◌, ◌∷◌, ◌-◌, [], IfOk, IfSome, List, OnErr, Some, false, length, nat_eq, option_map, ℕ};
+ghost use Rattle.vt_spec.specs.Inodes.{changed};
+ghost use Rattle.vt_spec.specs.Language.Changes.Change.{Make};
+ghost use Rattle.vt_spec.specs.Lists.{folded};
+ghost use Rattle.vt_spec.specs.Tree.{entries_in};
+ghost use Rattle.vt_spec.specs.TreeInvariant.{entry_at};
+ghost use Rattle.vt_copyup.specs.Plans.{CopiesAreThere, EntriesAreThere};
+ghost use Rattle.vt_fs.specs.FilesystemsValue.{ChangesInodes, files_at, giving_back, inodes_at, inodes_promised, promising, with_changed};
+ghost use Rattle.vt_laws_upper_layers.specs.Rows.{marking, removal};
+ghost use Rattle.vt_laws_worlds.specs.Merging.UpperChanges.{copy_node};
+ghost use Rattle.vt_location.specs.Locations.{inode_of, number_of};
+ghost use Rattle.vt_overlay.specs.declared.merge.layers.LayerRef.{LayerRef as Layer};
+ghost use Rattle.vt_upper.specs.Below.{is_directory_below};
+ghost use Rattle.vt_upper_overlay.specs.MergedAbove.{directory_path, upper_count};
+ghost use Rattle.vt_upper_overlay.specs.Standing.{StandsAbove};
+ghost use Rattle.vt_upper.specs.New.{HasName, IsCopiedFrom, IsEmptyNode, IsLeft, IsNameGone, IsNameReady, IsNewMade, IsPlaceOf, IsPlaceReady, MayMakeIn, MayPutIn, many_in, row_in_place, row_new, start_of};
+
+use crate::copying::plan_copies;
+use crate::lowers::directory_below;
+use std::alloc::{AllocError, Global};
+use vt_births::Births;
+use vt_copyup::{CopiedNode, Plan, give_back, promise};
+use vt_fs::Filesystems;
+use vt_location::{FilesystemId, InodeRef, NodeRef};
+use vt_node::EntryRoom;
+use vt_overlay::{MergedDirectory, entry_in};
+use vt_upper_overlay::UpperOverlay;
+
+/// An inode, and the name that it gets.
+#[derive(Debug, Drop)]
+pub struct NamedNode {
+    pub name: Vec<u8>,
+    pub node: CopiedNode,
+}
+
+// The directory of the upper layer in which an inode is made.
+#[derive(Debug, Drop)]
+pub(crate) enum Place {
+    // It is there, and this whiteout has the name, if anything has it.
+    There {
+        directory: InodeRef,
+        white: Option<InodeRef>,
+    },
+    // It is copied first, and has room for the name.
+    Copied {
+        copies: Plan,
+        room: EntryRoom,
+    },
+}
+
+impl Place {
+    // How many copies are made first.
+    pub(crate) fn copies(&self) -> usize
+        ensures { result ≡ many_in self.now }
+    {
+        match self {
+            Place::There { .. } => 0,
+            Place::Copied { copies, .. } => copies.len(),
+        }
+    }
+
+    // The filesystem of the upper layer.
+    pub(crate) fn filesystem(&self) -> FilesystemId
+        ensures { result ≡ (start_of self.now).filesystem }
+    {
+        match self {
+            Place::There { directory, .. } => directory.filesystem,
+            Place::Copied { copies, .. } => copies.filesystem(),
+        }
+    }
+
+    // Makes the directory's copy if need be, and then the inode, in the place of a whiteout. It does not allocate.
+    pub(crate) fn make(
+        self,
+        alloc: Global,
+        trees: &mut Filesystems,
+        births: &mut Births,
+        room: &mut EntryRoom,
+        object: NamedNode,
+    ) -> InodeRef
+        requires { IsPlaceReady self object.name.items trees.old births.old room.old }
+        ensures { IsNewMade self (row_in_place self object.name.items object.node) trees.old births.old trees.new
+            births.new result }
+    {
+        match self {
+            Place::There { directory, white } => {
+                make_there(alloc, trees, room, directory, white, object)
+            }
+            Place::Copied { copies, room: own } => {
+                let directory = copies.apply(alloc, trees, births, room);
+                make_in_copy(alloc, trees, directory, own, object)
+            }
+        }
+    }
+
+    // Makes the directory's copy if need be, or removes the name there. It does not allocate.
+    pub(crate) fn leave(
+        self,
+        alloc: Global,
+        trees: &mut Filesystems,
+        births: &mut Births,
+        room: &mut EntryRoom,
+        name: &[u8],
+    )
+        requires { IsNameReady self name.now trees.old births.old room.old }
+        ensures { IsNameGone self name.now trees.old births.old trees.new births.new }
+    {
+        match self {
+            Place::There { directory, white } => free_name(trees, directory, name, white),
+            Place::Copied { copies, room: _own } => {
+                copies.apply(alloc, trees, births, room);
+            }
+        }
+    }
+}
+
+// Where an inode gets its name, or loses it: in the directory as it is in the upper layer, or in its copy.
+pub(crate) fn place_for(
+    alloc: Global,
+    trees: &Filesystems,
+    overlay: &UpperOverlay,
+    room: &mut EntryRoom,
+    directory: NodeRef,
+    name: &[u8],
+) -> Result<Place, AllocError>
+    requires standing { StandsAbove trees.now overlay.now }
+    requires own { directory.filesystem ≡ overlay.now.layers.number }
+    requires may_put { MayPutIn trees.now overlay.now directory name.now }
+    ensures place { IfOk result (IsPlaceOf trees.now overlay.now directory) }
+    ensures filesystem { IfOk result (λ place. (start_of place).filesystem.count ≡ upper_count overlay.now) }
+    ensures ready { (inodes more : ℕ) → CopiesAreThere trees.now (upper_count overlay.now) overlay.now.nodes.births
+        → IfOk result (λ place. many_in place < inodes → many_in place ≤ more → IsPlaceReady place name.now
+        (with_changed (start_of place).filesystem.count (promising inodes) trees.now)
+        (record overlay.now.nodes.births { promised = overlay.now.nodes.births.promised + more }) room.new) }
+    ensures name_ready { (inodes more : ℕ) → CopiesAreThere trees.now (upper_count overlay.now) overlay.now.nodes.births
+        → IfOk result (λ place. many_in place ≤ inodes → many_in place ≤ more → IsNameReady place name.now
+        (with_changed (start_of place).filesystem.count (promising inodes) trees.now)
+        (record overlay.now.nodes.births { promised = overlay.now.nodes.births.promised + more }) room.new) }
+{
+    let copies = plan_copies(alloc, trees, overlay, room, directory, true)?;
+    if copies.len() == 0 {
+        let above = copies.directory();
+        trees.make_room(above.node_ref(), 1, room)?;
+        return Ok(Place::There {
+            directory: above,
+            white: entry_of(trees, above, name),
+        });
+    }
+    place_in_copy(alloc, copies)
+}
+
+// The last copy, with room for one name.
+fn place_in_copy(alloc: Global, copies: Plan) -> Result<Place, AllocError>
+    ensures { IfOk result (IsCopiedFrom copies) }
+{
+    let mut room = EntryRoom::new(alloc);
+    room.reserve(1)?;
+    Ok(Place::Copied { copies, room })
+}
+
+// What has a name in a directory of a plain tree.
+fn entry_of(trees: &Filesystems, directory: InodeRef, name: &[u8]) -> Option<InodeRef>
+    ensures leads { option_map inode_of result
+        ≡ entry_at (files_at trees.now directory.filesystem.count).tree (inode_of directory) name.now }
+    ensures filesystem { IfSome result (λ white. white.filesystem ≡ directory.filesystem) }
+{
+    let above = MergedDirectory {
+        layer: 0,
+        directory,
+    };
+    let found = entry_in(trees, above, name)?;
+    Some(found.object)
+}
+
+// Whether lower layers show a directory under a name of a directory, which a new one must hide.
+fn hides_directory(
+    trees: &Filesystems,
+    overlay: &UpperOverlay,
+    directory: NodeRef,
+    name: &[u8],
+) -> bool
+    requires standing { StandsAbove trees.now overlay.now }
+    requires own { directory.filesystem ≡ overlay.now.layers.number }
+    ensures { (path : List (List ℕ)) (upper : Layer) (lowers : List Layer)
+        → directory_path trees.now overlay.now (number_of directory) ≡ Some path
+        → overlay.now.layers.lowers ≡ upper ∷ lowers
+        → result ≡ is_directory_below trees.now upper lowers (path ++ name.now ∷ []) }
+{
+    let Some(way) = overlay.way(trees, directory) else {
+        return false;
+    };
+    directory_below(trees, overlay.layers(), &way.under(name))
+}
+
+// Makes an inode in a directory that is there, in the place of a whiteout. It does not allocate.
+fn make_there(
+    alloc: Global,
+    trees: &mut Filesystems,
+    room: &mut EntryRoom,
+    directory: InodeRef,
+    white: Option<InodeRef>,
+    object: NamedNode,
+) -> InodeRef
+    requires name { HasName (files_at trees.old directory.filesystem.count).tree directory
+        object.name.items white }
+    requires left { IsLeft (inodes_at trees.old directory.filesystem.count) directory object.name.items white }
+    requires promised { 0 < inodes_promised trees.old directory.filesystem.count }
+    requires room { length (entries_in
+        ((files_at trees.old directory.filesystem.count).tree.node (inode_of directory))) < room.old }
+    ensures row { ChangesInodes directory.filesystem.count (λ inodes. folded (changed nat_eq) inodes
+        (removal (inode_of directory) object.name.items (option_map inode_of white)
+        ++ (Make (inode_of directory) object.name.items (inode_of result)
+        (copy_node (inode_of directory) object.node) ∷ []))) trees.old trees.new }
+    ensures filesystem { result.filesystem ≡ directory.filesystem }
+    ensures apart { nat_eq (inode_of directory) (inode_of result) ≡ false }
+{
+    let NamedNode { name, node } = object;
+    free_name(trees, directory, &name, white);
+    node.make(alloc, trees, directory, name, room)
+}
+
+// Removes the name of a whiteout, if one has it. It does not allocate.
+fn free_name(trees: &mut Filesystems, directory: InodeRef, name: &[u8], white: Option<InodeRef>)
+    requires { HasName (files_at trees.old directory.filesystem.count).tree directory name.now white }
+    ensures row { ChangesInodes directory.filesystem.count (λ inodes. folded (changed nat_eq) inodes
+        (removal (inode_of directory) name.now (option_map inode_of white))) trees.old trees.new }
+    ensures promised { inodes_promised trees.new directory.filesystem.count
+        ≡ inodes_promised trees.old directory.filesystem.count }
+{
+    if let Some(white) = white {
+        trees.unlink_promised(directory.node_ref(), name, white.node_ref());
+    }
+}
+
+// Makes an inode in a copy of a directory, which has room for its name. It does not allocate.
+fn make_in_copy(
+    alloc: Global,
+    trees: &mut Filesystems,
+    directory: InodeRef,
+    room: EntryRoom,
+    object: NamedNode,
+) -> InodeRef
+    requires directory { IsEmptyNode ((files_at trees.old directory.filesystem.count).tree.node (inode_of directory)) }
+    requires entries { EntriesAreThere (files_at trees.old directory.filesystem.count).tree }
+    requires promised { 0 < inodes_promised trees.old directory.filesystem.count }
+    requires room { 0 < room }
+    ensures made { ChangesInodes directory.filesystem.count (λ inodes. changed nat_eq inodes
+        (Make (inode_of directory) object.name.items (inode_of result)
+        (copy_node (inode_of directory) object.node))) trees.old trees.new }
+    ensures filesystem { result.filesystem ≡ directory.filesystem }
+    ensures apart { nat_eq (inode_of directory) (inode_of result) ≡ false }
+{
+    let NamedNode { name, node } = object;
+    let mut room = room;
+    node.make(alloc, trees, directory, name, &mut room)
+}
+
+// Marks a directory opaque, or not. It does not allocate.
+fn mark(trees: &mut Filesystems, object: InodeRef, opaque: bool)
+    ensures { ChangesInodes object.filesystem.count
+        (λ inodes. folded (changed nat_eq) inodes (marking opaque (inode_of object))) trees.old trees.new }
+{
+    if !opaque {
+        return;
+    }
+    trees.set_opaque(object.node_ref(), true);
+}
+
+/// A new object, with the copies that its directory needs. It owns all memory that they take; inodes and births are
+/// promised to it. It must be applied or given back.
+#[derive(Debug)]
+pub struct NewPlan {
+    place: Place,
+    object: NamedNode,
+    // Lower layers show a directory under the name, which a new one must hide.
+    opaque: bool,
+}
+
+impl NewPlan {
+    /// Plans a new object in a directory that is shown, and shows nothing under the name. Nothing changes that anyone sees.
+    /// It fails only if an allocation does.
+    pub fn new(
+        alloc: Global,
+        trees: &mut Filesystems,
+        overlay: &mut UpperOverlay,
+        room: &mut EntryRoom,
+        directory: NodeRef,
+        object: NamedNode,
+    ) -> Result<NewPlan, AllocError>
+        requires standing { StandsAbove trees.old overlay.old }
+        requires own { directory.filesystem ≡ overlay.old.layers.number }
+        requires there { CopiesAreThere trees.old (upper_count overlay.old) overlay.old.nodes.births }
+        requires may_make { MayMakeIn trees.old overlay.old directory object.name.items }
+        ensures place { IfOk result (λ plan. IsPlaceOf trees.old overlay.old directory plan.place) }
+        ensures object { IfOk result (λ plan. plan.object ≡ object) }
+        ensures opaque { IfOk result (λ plan. (path : List (List ℕ)) (upper : Layer) (lowers : List Layer)
+            → directory_path trees.old overlay.old (number_of directory) ≡ Some path
+            → overlay.old.layers.lowers ≡ upper ∷ lowers
+            → plan.opaque ≡ is_directory_below trees.old upper lowers (path ++ object.name.items ∷ [])) }
+        ensures ready { IfOk result (λ plan. IsPlaceReady plan.place object.name.items trees.new
+            overlay.new.nodes.births room.new) }
+        ensures inodes { IfOk result (λ plan. trees.new
+            ≡ with_changed (upper_count overlay.old) (promising (many_in plan.place + 1)) trees.old) }
+        ensures births { IfOk result (λ plan. overlay.new.nodes.births
+            ≡ record overlay.old.nodes.births {
+              promised = overlay.old.nodes.births.promised + many_in plan.place;
+            }) }
+        ensures others { overlay.new ≡ record overlay.old {
+          nodes = record overlay.old.nodes { births = overlay.new.nodes.births };
+        } }
+        ensures err { OnErr result (trees.new ≡ trees.old) }
+        ensures err_overlay { OnErr result (overlay.new ≡ overlay.old) }
+    {
+        let opaque = hides_directory(trees, overlay, directory, &object.name);
+        let place = place_for(alloc, trees, overlay, room, directory, &object.name)?;
+        let copies = place.copies();
+        let Some(inodes) = copies.checked_add(1) else {
+            return Err(AllocError);
+        };
+        promise(
+            trees,
+            &mut overlay.nodes.births,
+            place.filesystem(),
+            inodes,
+            copies,
+        )?;
+        Ok(NewPlan {
+            place,
+            object,
+            opaque,
+        })
+    }
+
+    /// Makes the copies, with their births, and then the object in the place of a whiteout, with its mark. It returns the
+    /// object's inode in the upper layer. It does not allocate.
+    pub fn apply(
+        self,
+        alloc: Global,
+        trees: &mut Filesystems,
+        overlay: &mut UpperOverlay,
+        room: &mut EntryRoom,
+    ) -> InodeRef
+        requires { IsPlaceReady self.place self.object.name.items trees.old overlay.old.nodes.births room.old }
+        ensures made { IsNewMade self.place (row_new self.place self.object.name.items self.object.node self.opaque)
+            trees.old overlay.old.nodes.births trees.new overlay.new.nodes.births result }
+        ensures others { overlay.new ≡ record overlay.old {
+          nodes = record overlay.old.nodes { births = overlay.new.nodes.births };
+        } }
+    {
+        let NewPlan {
+            place,
+            object,
+            opaque,
+        } = self;
+        let made = place.make(alloc, trees, &mut overlay.nodes.births, room, object);
+        mark(trees, made, opaque);
+        made
+    }
+
+    /// Gives back what was promised: nothing changes. It does not allocate.
+    pub fn give_back(self, trees: &mut Filesystems, overlay: &mut UpperOverlay)
+        ensures trees { trees.new ≡ with_changed (start_of self.place).filesystem.count
+            (giving_back (many_in self.place + 1)) trees.old }
+        ensures overlay { overlay.new ≡ record overlay.old {
+          nodes = record overlay.old.nodes {
+            births = record overlay.old.nodes.births {
+              promised = overlay.old.nodes.births.promised - many_in self.place;
+            };
+          };
+        } }
+    {
+        let NewPlan {
+            place,
+            object: _object,
+            opaque: _opaque,
+        } = self;
+        let copies = place.copies();
+        let upper = place.filesystem();
+        give_back(trees, &mut overlay.nodes.births, upper, copies, copies);
+        give_back(trees, &mut overlay.nodes.births, upper, 1, 0);
+    }
+}
