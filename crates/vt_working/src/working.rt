@@ -83,10 +83,19 @@ pub struct Work {
     pub job: Job,
 }
 
-// Counts the scripts of a file.
-fn count(totals: &mut Totals, more: Totals) {
-    totals.passed = totals.passed.saturating_add(more.passed);
-    totals.failed = totals.failed.saturating_add(more.failed);
+// The scripts that were counted so far, and what is to be said next.
+#[derive(Drop)]
+struct Report {
+    totals: Totals,
+    text: Vec<u8>,
+}
+
+impl Report {
+    // Counts the scripts of a file.
+    fn count(&mut self, more: Totals) {
+        self.totals.passed = self.totals.passed.saturating_add(more.passed);
+        self.totals.failed = self.totals.failed.saturating_add(more.failed);
+    }
 }
 
 // Appends what `test` says of a file whose scripts are not run, and why; it counts as one that fails.
@@ -95,11 +104,11 @@ fn pass_over(
     name: &str,
     why: &str,
     job: Job,
-    totals: &mut Totals,
-    text: &mut Vec<u8>,
+    report: &mut Report,
 ) -> io::Result<bool> {
     if let Job::Test { format, .. } = job {
-        count(totals, unread_file(alloc, told(name), why, format, text)?);
+        let unread = unread_file(alloc, told(name), why, format, &mut report.text)?;
+        report.count(unread);
     }
     Ok(true)
 }
@@ -118,12 +127,11 @@ fn work_on<R: Files + Input + Eprint + AllocGlobal>(
     name: &str,
     content: &[u8],
     work: Work,
-    totals: &mut Totals,
-    text: &mut Vec<u8>,
+    report: &mut Report,
 ) -> io::Result<bool> {
     let (alloc, file) = (rt.alloc(), told(name));
     let Some(version) = version_of(rt, name, content, work) else {
-        return pass_over(alloc, name, NO_VERSION, work.job, totals, text);
+        return pass_over(alloc, name, NO_VERSION, work.job, report);
     };
     match work.job {
         Job::Check {
@@ -137,14 +145,15 @@ fn work_on<R: Files + Input + Eprint + AllocGlobal>(
                 strict,
                 most,
             };
-            check::check(alloc, file, content, options, text)
+            check::check(alloc, file, content, options, &mut report.text)
         }
         Job::Test { format, tells_all } => {
+            let text = &mut report.text;
             let tested = test_file::<Kernel, _>(version, alloc, file, content, format, text)?;
-            count(totals, tested);
+            report.count(tested);
             let Totals { passed, failed } = tested;
             if tells_all {
-                writeln!(text, "{file}: {passed} passed, {failed} failed")?;
+                writeln!(report.text, "{file}: {passed} passed, {failed} failed")?;
             }
             Ok(failed > 0)
         }
@@ -152,7 +161,7 @@ fn work_on<R: Files + Input + Eprint + AllocGlobal>(
             let Some(changes) = write_file(rt, version, name, content) else {
                 return Ok(true);
             };
-            writeln!(text, "{name}: {changes} answers written")?;
+            writeln!(report.text, "{name}: {changes} answers written")?;
             Ok(false)
         }
     }
@@ -163,21 +172,20 @@ fn work_on_named<R: Files + Input + Eprint + AllocGlobal, W: Write>(
     rt: &R,
     name: &str,
     work: Work,
-    totals: &mut Totals,
-    text: &mut Vec<u8>,
+    report: &mut Report,
     output: &mut W,
 ) -> Result<bool, Fault>
     ensures { IfErr result (λ fault. comes_before_output fault ≡ false) }
 {
     let outcome = match readable(rt, name) {
-        Some(content) => work_on(rt, name, content.as_slice(), work, totals, text),
-        None => pass_over(rt.alloc(), name, UNREAD, work.job, totals, text),
+        Some(content) => work_on(rt, name, content.as_slice(), work, report),
+        None => pass_over(rt.alloc(), name, UNREAD, work.job, report),
     };
     let Ok(is_bad) = outcome else {
         return Err(Fault::Run(RunFault::Memory));
     };
-    hand_on(output, text.as_slice())?;
-    text.clear();
+    hand_on(output, report.text.as_slice())?;
+    report.text.clear();
     Ok(is_bad)
 }
 
@@ -186,8 +194,7 @@ fn work_on_folder<R: Runtime + AllocGlobal, W: Write>(
     rt: &R,
     folder: &str,
     work: Work,
-    totals: &mut Totals,
-    text: &mut Vec<u8>,
+    report: &mut Report,
     output: &mut W,
 ) -> Result<bool, Fault>
     ensures { IfErr result (λ fault. comes_before_output fault ≡ false) }
@@ -197,7 +204,7 @@ fn work_on_folder<R: Runtime + AllocGlobal, W: Write>(
     };
     let mut found = names.is_empty();
     for name in &names {
-        found |= work_on_named(rt, name.as_str(), work, totals, text, output)?;
+        found |= work_on_named(rt, name.as_str(), work, report, output)?;
     }
     Ok(found)
 }
@@ -222,9 +229,8 @@ fn begin_all(job: Job, text: &mut Vec<u8>) -> io::Result<()> {
 fn finish<W: Write>(
     alloc: Global,
     job: Job,
-    totals: Totals,
     found: bool,
-    text: &mut Vec<u8>,
+    report: &mut Report,
     output: &mut W,
 ) -> Result<(), Fault>
     ensures output { IfErr result (λ fault. comes_before_output fault ≡ false) }
@@ -232,37 +238,36 @@ fn finish<W: Write>(
     ensures run { IfErr result (λ fault. found ≡ false → is_of_run fault ≡ true) }
 {
     if let Job::Test { format, .. } = job
-        && end(alloc, format, totals, text).is_err()
+        && end(alloc, format, report.totals, &mut report.text).is_err()
     {
         return Err(Fault::Run(RunFault::Memory));
     }
-    hand_on(output, text.as_slice())?;
+    hand_on(output, report.text.as_slice())?;
     if found { Err(Fault::Found) } else { Ok(()) }
 }
 
-// Checks, tests or rewrites these files, with one text for what is to be said of each.
+// Checks, tests or rewrites these files, with one report for all.
 fn work_through<R: Runtime + AllocGlobal, W: Write>(
     rt: &R,
     files: &[&str],
     work: Work,
-    text: &mut Vec<u8>,
+    report: &mut Report,
     output: &mut W,
 ) -> Result<(), Fault>
     ensures { IfErr result (λ fault. comes_before_output fault ≡ false) }
 {
-    let mut totals = Totals::new();
     let mut found = false;
-    if begin_all(work.job, text).is_err() {
+    if begin_all(work.job, &mut report.text).is_err() {
         return Err(Fault::Run(RunFault::Memory));
     }
     for name in files {
         found |= if is_folder(rt, name) {
-            work_on_folder(rt, name, work, &mut totals, text, output)?
+            work_on_folder(rt, name, work, report, output)?
         } else {
-            work_on_named(rt, name, work, &mut totals, text, output)?
+            work_on_named(rt, name, work, report, output)?
         };
     }
-    finish(rt.alloc(), work.job, totals, found, text, output)
+    finish(rt.alloc(), work.job, found, report, output)
 }
 
 /// Checks, tests or rewrites these files, and the scripts of these folders, and tells what it finds.
@@ -274,8 +279,11 @@ pub fn work_on_all<R: Runtime + AllocGlobal, W: Write>(
 ) -> Result<(), Fault>
     ensures { IfErr result (λ fault. comes_before_output fault ≡ false) }
 {
-    let mut text = Vec::new(rt.alloc());
-    let outcome = work_through(rt, files, work, &mut text, output);
-    drop(text);
+    let mut report = Report {
+        totals: Totals::new(),
+        text: Vec::new(rt.alloc()),
+    };
+    let outcome = work_through(rt, files, work, &mut report, output);
+    drop(report);
     outcome
 }
