@@ -20,10 +20,12 @@ mod replaced_while_opened;
 mod runc_pivot;
 mod runc_root;
 mod sandbox;
+mod sealed_in_any_order;
 mod sealed_sandbox;
 mod secret_file;
 mod slave_root;
 mod sticky_tmp;
+mod two_runtimes;
 mod two_users_of_an_image;
 mod unshare_mounts;
 mod volume_propagation;
@@ -50,6 +52,8 @@ release-and-service    a release behind a symlink\n\
 image-build            an image build\n\
 replace-by-rename      a file replaced without a gap\n\
 replaced-while-opened  a file is replaced while another task opens it, in every order (vtree turns --all)\n\
+two-runtimes           two runtimes mount at one place, in every order (vtree turns --all)\n\
+sealed-in-any-order    a sealed sandbox answers the same in every order (vtree turns --all, version 2)\n\
 volume-propagation     propagation of a Kubernetes volume\n\
 private-volume         Docker's private volumes\n\
 slave-root             runc's slaves\n\
@@ -61,7 +65,7 @@ denials                each kind of denial\n\
 ";
 
 // Their names.
-static NAMES: [&str; 28] = [
+static NAMES: [&str; 30] = [
     "docker-volumes",
     "pods-share-a-volume",
     "runc-pivot",
@@ -82,6 +86,8 @@ static NAMES: [&str; 28] = [
     "image-build",
     "replace-by-rename",
     "replaced-while-opened",
+    "two-runtimes",
+    "sealed-in-any-order",
     "volume-propagation",
     "private-volume",
     "slave-root",
@@ -115,14 +121,16 @@ fn script_at(place: usize) -> Option<&'static str> {
         17 => Some(image_build::SCRIPT),
         18 => Some(replace_by_rename::SCRIPT),
         19 => Some(replaced_while_opened::SCRIPT),
-        20 => Some(volume_propagation::SCRIPT),
-        21 => Some(private_volume::SCRIPT),
-        22 => Some(slave_root::SCRIPT),
-        23 => Some(image_layer::SCRIPT),
-        24 => Some(image_of_three_layers::SCRIPT),
-        25 => Some(two_users_of_an_image::SCRIPT),
-        26 => Some(sealed_sandbox::SCRIPT),
-        27 => Some(denials::SCRIPT),
+        20 => Some(two_runtimes::SCRIPT),
+        21 => Some(sealed_in_any_order::SCRIPT),
+        22 => Some(volume_propagation::SCRIPT),
+        23 => Some(private_volume::SCRIPT),
+        24 => Some(slave_root::SCRIPT),
+        25 => Some(image_layer::SCRIPT),
+        26 => Some(image_of_three_layers::SCRIPT),
+        27 => Some(two_users_of_an_image::SCRIPT),
+        28 => Some(sealed_sandbox::SCRIPT),
+        29 => Some(denials::SCRIPT),
         _ => None,
     }
 }
@@ -150,7 +158,8 @@ pub fn meant(text: &str) -> Option<&'static str> {
 /// The options by which the example of this name is read, with a space behind them.
 pub fn options_of(name: &str) -> &'static str {
     match name {
-        "runc-pivot" | "bwrap-pivots" | "nspawn-pivot" | "sealed-sandbox" => "--script 2 ",
+        "runc-pivot" | "bwrap-pivots" | "nspawn-pivot" | "sealed-in-any-order" | "sealed-sandbox" =>
+            "--script 2 ",
         _ => "",
     }
 }
