@@ -2,6 +2,7 @@
 """Writes a script for vtree, for timing.
 
 usage: generate.py KIND LINES
+       generate.py schedule LINES
 
 files   directories, and in each a file that is written and read, in turn
 listed  like files, with every 50th line an `ls` of one of the directories
@@ -40,10 +41,14 @@ merged2, merged8, merged64
         an overlay of so many lower layers, and `ls` of a directory of 1,000 names that all of them have a part of
 locked  files of 1,000 directories, written and read in turn beside 64 live overlays of three layers each; each 20th line
         writes in one of the layers, and is refused
+turns   files of four tasks, each in a directory of its own, written and read in turn
 later60, later600, later2000
         so many mounted filesystems, of which the oldest is unmounted, again and again, and a new one mounted in its place
 
 The number of directories is 1,000, or fewer for a short script. The same words give the same script.
+
+`schedule` writes the schedule for the script `turns` of so many lines, for `vtree turns SCRIPT SCHEDULE`: the tasks take
+turns as in the script, and each call has as many as it takes.
 """
 import collections
 import itertools
@@ -549,6 +554,29 @@ def stacks(lines):
         yield 't stat /m/d'
 
 
+WORKERS = [f't.{number}' for number in range(1, 5)]
+
+
+def turns(lines):
+    for _ in WORKERS:
+        yield 't fork'
+    for name in WORKERS:
+        yield f'{name} mkdir /{name}'
+    for i in range(lines - 2 * len(WORKERS)):
+        name = WORKERS[i % len(WORKERS)]
+        word = 'read' if i // len(WORKERS) % 2 else 'write'
+        text = '' if word == 'read' else ' text'
+        yield f'{name} {word} /{name}/f{i // (2 * len(WORKERS))}{text}'
+
+
+def schedule(lines):
+    """The turns of a script `turns`: a call takes one for each word of its path, and one more."""
+    for line in turns(lines):
+        name, _, *paths = line.split(' ')
+        for _ in range(1 + (paths[0].count('/') if paths else 0)):
+            yield name
+
+
 KINDS = {
     'files': files, 'listed': listed, 'escaped': escaped, 'deep': deep, 'one': one, 'users': users, 'links': links, 'mounts': mounts,
     'spaces': spaces, 'sealed': sealed,
@@ -564,11 +592,15 @@ KINDS = {
     'layers2': lambda lines: layers(lines, 2), 'layers8': lambda lines: layers(lines, 8),
     'layers64': lambda lines: layers(lines, 64), 'merged2': lambda lines: merged(lines, 2),
     'merged8': lambda lines: merged(lines, 8), 'merged64': lambda lines: merged(lines, 64), 'locked': locked,
-    'climbs': climbs, 'parts': lambda lines: climbs(lines, '/part'), 'exits': exits, 'stacks': stacks,
+    'climbs': climbs, 'parts': lambda lines: climbs(lines, '/part'), 'exits': exits, 'stacks': stacks, 'turns': turns,
 }
 
 
 def main():
+    if len(sys.argv) == 3 and sys.argv[1] == 'schedule' and sys.argv[2].isdigit():
+        for line in schedule(int(sys.argv[2])):
+            print(line)
+        return
     if len(sys.argv) != 3 or sys.argv[1] not in KINDS or not sys.argv[2].isdigit():
         sys.exit(__doc__.strip())
     out = sys.stdout
