@@ -1,1 +1,3 @@
 pub mod Overlapping
+pub mod LiveLayers
+pub mod Locked
