@@ -40,7 +40,7 @@ abbrev names : List Copy → List (List ℕ)
 names copies = map (λ (copy : Copy). copy.name) copies
 
 -- a file without its bytes is the same once it is written
-written-copied : (directory : ℕ) (bytes : List ℕ) (node : Node ℕ)
+pub written-copied : (directory : ℕ) (bytes : List ℕ) (node : Node ℕ)
     → node_with_bytes bytes (Some (copy_node directory node))
     ≡ node_with_bytes bytes (Some (copy_node directory (copied false node)))
 written-copied directory bytes node = by node.content

@@ -6,6 +6,9 @@ pub mod EmptyCopies
 pub mod FitCopies
 pub mod Freed
 pub mod GivenBack
+pub mod KeptDone
+pub mod KeptMade
+pub mod KeptReady
 pub mod LastMade
 pub mod LowersShown
 pub mod NewMade

@@ -1,6 +1,8 @@
 pub mod Below
 pub mod Changes
 pub mod Copies
+pub mod KeptChanges
+pub mod KeptLaws
 pub mod Laws
 pub mod New
 pub mod NewLaws

@@ -31,14 +31,14 @@ pub enum ObjectChange {
 
 impl ObjectChange {
     // Whether a copy needs the bytes of the file.
-    fn keeps_bytes(&self) -> bool
+    pub(crate) fn keeps_bytes(&self) -> bool
         ensures { result ≡ keeps_bytes self.now }
     {
         !matches!(self, ObjectChange::Bytes(_))
     }
 
     // Makes the change. It does not allocate.
-    fn make(self, trees: &mut Filesystems, object: InodeRef)
+    pub(crate) fn make(self, trees: &mut Filesystems, object: InodeRef)
         requires { IsFit self ((files_at trees.old object.filesystem.count).tree.node (inode_of object)) }
         ensures { ChangesInodes object.filesystem.count
             (λ inodes. folded (changed nat_eq) inodes (row_of self (inode_of object))) trees.old trees.new }

@@ -1,4 +1,5 @@
 //! Laws of plans.
+ghost use Rattle.vt_upper.specs.KeptLaws.{KeptChangesAboveAreMade, KeptChangesBelowAreMade};
 ghost use Rattle.vt_upper.specs.Laws.{ChangesAboveAreMade, ChangesBelowAreMade};
 ghost use Rattle.vt_upper.specs.NewLaws.{NewObjectsAreMade};
 ghost use Rattle.vt_upper.specs.RemovalLaws.{NamesAreGone, NamesAreHidden};
@@ -12,6 +13,15 @@ use vt_laws_upper_layers::rows::changes_of_overlays_are_rows;
 pub fn changes_are_made()
     ensures below { ChangesBelowAreMade }
     ensures above { ChangesAboveAreMade }
+{}
+
+/// So with an object that has lost its names while it is in use: one that a lower layer has (`below`), and one in the upper
+/// layer (`above`).
+///
+/// The copy has the number that is handed out.
+pub fn kept_changes_are_made()
+    ensures below { KeptChangesBelowAreMade }
+    ensures above { KeptChangesAboveAreMade }
 {}
 
 /// What a plan makes of the upper layer's tree for a new object is what the definitions' change makes of it, but for the

@@ -4,12 +4,14 @@
 
 mod changing;
 mod copying;
+mod keeping;
 mod laws;
 mod lowers;
 mod making;
 mod removing;
 
 pub use changing::{ChangePlan, ObjectChange};
-pub use laws::{changes_are_made, new_objects_are_made, removals_are_made};
+pub use keeping::KeptChangePlan;
+pub use laws::{changes_are_made, kept_changes_are_made, new_objects_are_made, removals_are_made};
 pub use making::{NamedNode, NewPlan};
 pub use removing::RemovalPlan;
