@@ -25,9 +25,10 @@ pub fn kept_changes_are_made()
 {}
 
 /// What a plan makes of the upper layer's tree for a new object is what the definitions' change makes of it, but for the
-/// whiteout that had the name, which goes.
+/// whiteout that had the name, which goes, if the object's number is new in the tree.
 ///
-/// Copies and the object have the numbers that are handed out.
+/// Copies and the object have the numbers that are handed out. The number is not new where the whiteout had no other use:
+/// its slot is then free, and taken again.
 pub fn new_objects_are_made()
     ensures { NewObjectsAreMade }
 {
@@ -35,8 +36,8 @@ pub fn new_objects_are_made()
 }
 
 /// What a plan makes of the upper layer's tree where it removes a name is what the definitions' change makes of it, but for
-/// what had the name, which goes if nothing uses it: a whiteout hides what lower layers show there (`hidden`), or they show
-/// nothing (`gone`).
+/// what had the name, which goes if nothing uses it: a whiteout whose number is new in the tree hides what lower layers
+/// show there (`hidden`), or they show nothing (`gone`).
 ///
 /// Copies and the whiteout have the numbers that are handed out. What has the name in the upper layer has no entries.
 pub fn removals_are_made()
