@@ -1,10 +1,11 @@
 -- A tree by the numbers of its inodes: whatever is made of it is what is made of it by slots, renamed.
-use Rattle.std.proofs.Common.{◌≡◌, refl, ℕ, nat_eq, Bool, List, Option, option_map}
-use Rattle.vt_spec.proofs.Common.{Change, Inodes, Node, entry_at, has_entry_to, one_directory, parent_in, pinned, renamed_node, tree_of, unpinned, uses_in}
+use Rattle.std.proofs.Common.{◌≡◌, refl, sym, ap, ◌∙◌, ◌+◌, ◌∷◌, [], ℕ, nat_eq, Bool, List, map, Option, option_map, if◌then◌else◌}
+use Rattle.vt_spec.proofs.Common.{Change, Inodes, Node, entry_at, has_entry_to, one_directory, parent_in, pinned, renamed_node, targets_in, tree_of, unpinned, uses_in}
 use Rattle.vt_spec.specs.declared.attributes.Attr.{Attr}
 use Rattle.vt_spec.specs.Inodes.{changed, is_directory_under, renamed_inodes}
 use Rattle.vt_laws_rules.specs.Renaming.{Renaming, renamed_change}
-use Rattle.vt_laws_rules.proofs.numbers.Commuting.{Named, commutes_nat, node_itself, option_itself, inode_itself, change_itself}
+use Rattle.vt_laws_rules.proofs.numbers.Commuting.{Named, commutes_nat, map_itself, node_itself, option_itself, inode_itself, change_itself}
+use Rattle.vt_fs.specs.Trees.Names.{how_often, names_at}
 use Rattle.vt_fs.specs.Trees.Paths.{path_in}
 use Rattle.vt_fs.specs.Trees.TreeValue.{with_unnamed}
 use Rattle.vt_location.specs.Numbers.{exchanged}
@@ -190,3 +191,39 @@ module _ (f : ℕ) (inodes : Inodes ℕ) (slot : ℕ) where
       ≡ nat_eq slot (parent_in slot ((tree_of inodes).node slot))
   own_by_numbers = commutes_nat WithOne (λ (A : Type 0). Bool) named_one (named_nothing Bool)
       (λ A eq s. eq s.1 (parent_in s.1 ((tree_of s.0).node s.1))) (exchange f) (inodes, slot)
+
+-- How often a number is in a list
+abbrev often : {A : Type 0} → (A → A → Bool) → A → List A → ℕ
+often eq number [] = 0
+often eq number (other ∷ rest) = (if eq number other then 1 else 0) + often eq number rest
+
+often_same : (number : ℕ) (list : List ℕ) → often nat_eq number list ≡ how_often number list
+often_same number [] = refl
+often_same number (other ∷ rest) = ap (λ n. (if nat_eq number other then 1 else 0) + n) (often_same number rest)
+
+abbrev WithList : Type 0 → Type 0
+WithList A = A × List A
+
+abbrev named_list : Named WithList
+named_list = record {
+  rename = λ A B there back s. (there s.0, map there s.1);
+  itself = λ A s i. (s.0, map_itself (λ n. n) (λ n. refl) s.1 i);
+}
+
+pub often_by_numbers : (f number : ℕ) (list : List ℕ)
+    → how_often (exchanged f number) (map (exchanged f) list) ≡ how_often number list
+often_by_numbers f number list = sym (often_same (exchanged f number) (map (exchanged f) list))
+    ∙ commutes_nat WithList (λ (A : Type 0). ℕ) named_list (named_nothing ℕ) (λ A eq s. often eq s.0 s.1) (exchange f)
+    (number, list)
+    ∙ often_same number list
+
+-- and how many names of a directory lead to an object
+pub counted_by_numbers : (f : ℕ) (inodes : Inodes ℕ) (object directory : ℕ)
+    → names_at (tree_of (by_numbers f inodes)) (exchanged f object) (exchanged f directory)
+    ≡ names_at (tree_of inodes) object directory
+counted_by_numbers f inodes object directory =
+    sym (often_same (exchanged f object)
+    (targets_in ((tree_of (by_numbers f inodes)).node (exchanged f directory))))
+    ∙ commutes_nat WithTwo (λ (A : Type 0). ℕ) named_two (named_nothing ℕ)
+    (λ A eq s. often eq s.2 (targets_in ((tree_of s.0).node s.1))) (exchange f) (inodes, directory, object)
+    ∙ often_same object (targets_in ((tree_of inodes).node directory))

@@ -1,14 +1,15 @@
 -- A filesystem that is there, with this tree; and what a change of that tree changes.
-use Rattle.std.proofs.Common.{arith, ◌<◌, ◌≡◌, refl, sym, ap, subst, ◌∙◌, true≢false, ℕ, Bool, true, false, cond, nat_eq, List, [], ◌∷◌, not, Option, Some, None, option_map, unwrap_or, is_some, MutBor, IsSome, if◌then◌else◌, eqb-true}
+use Rattle.std.proofs.Common.{arith, ◌<◌, ◌≡◌, refl, sym, ap, subst, ◌∙◌, true≢false, ℕ, Bool, true, false, cond, nat_eq, List, map, [], ◌∷◌, not, Option, Some, None, option_copied, option_map, unwrap_or, is_some, Bor, MutBor, IsSome, if◌then◌else◌, eqb-true}
 use Rattle.vt_spec.proofs.Common.{Change, Entries, Inode, Inodes, IsDirectory, MayReplace, Node, any_pair, entries_in, entry_at as number_at, has_entry_to, is_directory_node, is_empty_list, list_any, node_in, option_copied_mut, or_false_left, or_false_right, parent_in, pinned, renamed_inode, tree_of as tree_of_inodes, unpinned, uses_in}
 use Rattle.vt_spec.specs.Inodes.{changed, is_directory_under}
 use Rattle.vt_spec.specs.Fits.{StaysOutside}
 use Rattle.vt_location.specs.Numbers.{exchanged}
+use Rattle.vt_fs.specs.Trees.Names.{IsNamed, ListsNames, how_often, names_at}
 use Rattle.vt_fs.specs.Trees.Paths.{path_in}
 use Rattle.vt_fs.specs.Trees.TreeValue.{TreeValue, inodes_of, tree_of}
 use Rattle.vt_fs.specs.FilesystemsValue.{ChangesInodes, FilesystemEntry, Filesystems, entry_at, entry_of, files_at, files_seen, inodes_at, inodes_promised, inodes_seen, no_entry, node_seen, seen_in, shown, shown_entry, shown_with, with_changed, with_tree, without}
 use Rattle.vt_location.proofs.NumberLemmas.{exchanged_back}
-use Rattle.vt_fs.proofs.Renamed.{by_numbers, changed_by_numbers, entry_by_numbers, names_by_numbers, node_by_numbers, own_by_numbers, path_by_numbers, pinned_by_numbers, plain_by_numbers, root_by_numbers, under_by_numbers, unpinned_by_numbers, uses_by_numbers}
+use Rattle.vt_fs.proofs.Renamed.{by_numbers, changed_by_numbers, counted_by_numbers, entry_by_numbers, names_by_numbers, node_by_numbers, often_by_numbers, own_by_numbers, path_by_numbers, pinned_by_numbers, plain_by_numbers, root_by_numbers, under_by_numbers, unpinned_by_numbers, uses_by_numbers}
 use Rattle.vt_laws_rules.specs.Renaming.{renamed_change}
 
 -- the filesystem of this count is there, with this tree, and no two have one count
@@ -92,6 +93,27 @@ module _ (fs : Filesystems) (f : ℕ) (lent : Option (MutBor TreeValue))
       by None e = absurd (true≢false (ap is_some (sym named)
           ∙ ap (λ entry. is_some (number_at (files_seen entry).tree number name)) (entry_nowhere fs f (sym e))))
       by (Some tree) e = refl
+
+-- so does one with an inode
+pub inode_exists : (fs : Filesystems) (f number : ℕ) → is_some ((files_at fs f).tree.node number) ≡ true
+    → (lent : Option (Bor TreeValue))
+    → option_copied lent ≡ option_map (λ (entry : FilesystemEntry). entry.tree) (entry_of fs f) → IsSome lent
+inode_exists fs f number there None e = absurd (true≢false (sym there
+    ∙ ap (λ entry. is_some ((files_seen entry).tree.node number)) (entry_nowhere fs f (sym e))))
+inode_exists fs f number there (Some tree) e = refl
+
+pub inode_lent : (fs : Filesystems) (f number : ℕ) → is_some ((files_at fs f).tree.node number) ≡ true
+    → (lent : Option (MutBor TreeValue))
+    → option_copied_mut lent ≡ option_map (λ (entry : FilesystemEntry). entry.tree) (entry_of fs f) → IsSome lent
+inode_lent fs f number there None e = absurd (true≢false (sym there
+    ∙ ap (λ entry. is_some ((files_seen entry).tree.node number)) (entry_nowhere fs f (sym e))))
+inode_lent fs f number there (Some tree) e = refl
+
+-- the tree that is lent for a look
+pub tree_found : (fs : Filesystems) (f : ℕ) (lent : Option (Bor TreeValue)) (tree : Bor TreeValue)
+    → option_copied lent ≡ option_map (λ (entry : FilesystemEntry). entry.tree) (entry_of fs f) → lent ≡ Some tree
+    → option_map (λ (entry : FilesystemEntry). entry.tree) (entry_of fs f) ≡ Some tree.now
+tree_found fs f lent tree value is = sym value ∙ ap option_copied is
 
 -- and so does one with promised inodes
 pub promised_exists : (fs : Filesystems) (f : ℕ) (lent : Option (MutBor TreeValue))
@@ -260,6 +282,28 @@ module _ (fs : Filesystems) (f : ℕ) (tree : TreeValue)
       (λ i. has_entry_to nat_eq (tree_of_inodes (is_seen i)) (sym same i) (sym same_object i))
       ∙ names_by_numbers f (inodes_of tree) slot object_slot
 
+  -- what lists the names of an object by slots lists them by numbers
+  pub listed_there : (slot number : ℕ) → exchanged f slot ≡ number → (directories : List ℕ)
+      → ListsNames (tree_of tree) slot directories → ListsNames (files_at fs f).tree number (map (exchanged f) directories)
+  listed_there slot number same directories lists directory =
+      let back : exchanged f (exchanged f directory) ≡ directory = exchanged_back f directory in
+      let names : names_at (files_at fs f).tree number directory ≡ names_at (tree_of tree) slot (exchanged f directory) =
+      (λ i. names_at (tree_of_inodes (is_seen i)) (sym same i) (sym back i))
+      ∙ counted_by_numbers f (inodes_of tree) slot (exchanged f directory) in
+      let listed : how_often directory (map (exchanged f) directories) ≡ how_often (exchanged f directory) directories =
+      ap (λ n. how_often n (map (exchanged f) directories)) (sym back)
+      ∙ often_by_numbers f (exchanged f directory) directories in
+      omega (arith, names, listed, lists (exchanged f directory))
+
+  -- and the other way round
+  pub lists_there : (slot number : ℕ) → exchanged f slot ≡ number → (directories : List ℕ)
+      → ListsNames (files_at fs f).tree number (map (exchanged f) directories) → ListsNames (tree_of tree) slot directories
+  lists_there slot number same directories lists directory =
+      let names : names_at (files_at fs f).tree number (exchanged f directory) ≡ names_at (tree_of tree) slot directory =
+      (λ i. names_at (tree_of_inodes (is_seen i)) (sym same i) (exchanged f directory))
+      ∙ counted_by_numbers f (inodes_of tree) slot directory in
+      omega (arith, names, often_by_numbers f directory directories, lists (exchanged f directory))
+
   -- a slot without a node has no inode
   pub vacant_there : (slot number : ℕ) → exchanged f slot ≡ number → (tree_of tree).node slot ≡ None
       → (inodes_at fs f).inode number ≡ None
@@ -293,6 +337,15 @@ module _ (fs : Filesystems) (f : ℕ) (tree : TreeValue)
       by (Some other) e =
           let is : exchanged f other ≡ exchanged f object_slot = cc in
           ap Some (sym (exchanged_back f other) ∙ ap (exchanged f) is ∙ exchanged_back f object_slot)
+
+  pub named_there : (slot number : ℕ) → exchanged f slot ≡ number → IsNamed (files_at fs f).tree number
+      → IsNamed (tree_of tree) slot
+  named_there slot number same named = record {
+    directory = exchanged f named.directory;
+    name = named.name;
+    leads = slot_named (exchanged f named.directory) named.directory named.name slot number
+        (exchanged_back f named.directory) same named.leads;
+  }
 
   -- a name that is free by numbers is free by slots
   pub free_there : (slot number : ℕ) (name : List ℕ) → exchanged f slot ≡ number

@@ -9,4 +9,4 @@ mod tree;
 
 pub use filesystems::Filesystems;
 pub use laws::{filesystems_are_found, numbers_are_those_of_inodes, trees_name_parents};
-pub use tree::Tree;
+pub use tree::{LinkRoom, Tree};

@@ -1,18 +1,22 @@
 //! What a plan does where nothing may fail: inodes that were promised, and names for which room was made.
-ghost use Rattle.std.specs.Prelude.{◌≡◌, ℕ, [], ◌+◌, ◌<◌, ◌≤◌, false, is_some, length, nat_eq, true, OnErr, OnOk, Some, None};
+ghost use Rattle.std.specs.Prelude.{◌≡◌, ℕ, [], ◌+◌, ◌<◌, ◌≤◌, false, is_some, length, map, nat_eq, true, IfOk, OnErr, OnOk, Some, None};
+ghost use Rattle.smallvec.specs.SmallVec.{HasRoomFor};
 ghost use Rattle.vt_spec.specs.FileTree.{has_entry_to};
 ghost use Rattle.vt_spec.specs.Fits.{MayReplace, StaysOutside};
-ghost use Rattle.vt_spec.specs.Inodes.{changed};
-ghost use Rattle.vt_spec.specs.Language.Changes.Change.{Make, Move, Remove};
+ghost use Rattle.vt_spec.specs.Inodes.{changed, pinned, uses_in};
+ghost use Rattle.vt_spec.specs.Language.Changes.Change.{AddName, Make, Move, Remove};
 ghost use Rattle.vt_spec.specs.Laws.Trees.{IsNewIn};
-ghost use Rattle.vt_spec.specs.Tree.{entries_in};
+ghost use Rattle.vt_spec.specs.Tree.{entries_in, is_directory_node};
 ghost use Rattle.vt_spec.specs.TreeInvariant.{IsDirectory, entry_at as number_at};
 ghost use Rattle.vt_fs.specs.FilesystemsValue.{ChangesInodes, entry_at, files_at, giving_back, inodes_at, inodes_promised, next_seen, node_seen, promising, with_changed};
+ghost use Rattle.vt_fs.specs.Trees.Names.{IsNamed, ListsNames};
 ghost use Rattle.vt_fs.specs.Trees.TreeValue.{with_unnamed};
 ghost use Rattle.vt_location.specs.Locations.{number_of};
+ghost use Rattle.vt_location.specs.Numbers.{exchanged, most_counted};
 ghost use Rattle.vt_location.specs.declared.births.Birth.TheVariants.{Here};
 
 use crate::filesystems::{Filesystems, in_slot};
+use crate::tree::LinkRoom;
 use std::alloc::{AllocError, Global};
 use vt_location::{FilesystemId, NodeRef};
 use vt_node::{EntryRoom, NewNode};
@@ -126,6 +130,75 @@ impl Filesystems {
         let tree = self.get_mut(filesystem).unwrap();
         let slot = tree.create_unnamed(alloc, node);
         in_slot(filesystem, slot)
+    }
+
+    /// The directories that have names for an object, with a place for one more: what `link_promised` takes.
+    pub fn link_room(&self, object: NodeRef) -> Result<LinkRoom, AllocError>
+        requires there { is_some
+            ((files_at self.now object.filesystem.count).tree.node (number_of object)) ≡ true }
+        ensures names { IfOk result (λ room. ListsNames (files_at self.now object.filesystem.count).tree
+            (number_of object) (map (exchanged object.filesystem.count) room.items)) }
+        ensures room { IfOk result (λ room. HasRoomFor room 1) }
+    {
+        let linked = self.slot_of(object).unwrap();
+        let tree = self.get(object.filesystem).unwrap();
+        tree.link_room(linked)
+    }
+
+    /// As `link`, for a caller that has made room for the name: in the directory, and among those that have the object's
+    /// names. It does not allocate, and what is promised stays so.
+    ///
+    /// The object has a name, and fewer than 2^64 - 1 uses.
+    pub fn link_promised(
+        &mut self,
+        directory: NodeRef,
+        name: Vec<u8>,
+        object: NodeRef,
+        room: &mut EntryRoom,
+        links: LinkRoom,
+    )
+        requires one_filesystem { object.filesystem ≡ directory.filesystem }
+        requires directory { IsDirectory (files_at self.old directory.filesystem.count).tree (number_of directory) }
+        requires free { number_at (files_at self.old directory.filesystem.count).tree
+            (number_of directory) name.items ≡ None }
+        requires there { is_some
+            ((files_at self.old directory.filesystem.count).tree.node (number_of object)) ≡ true }
+        requires object { is_directory_node
+            ((files_at self.old directory.filesystem.count).tree.node (number_of object)) ≡ false }
+        requires named { IsNamed (files_at self.old directory.filesystem.count).tree (number_of object) }
+        requires uses { uses_in ((inodes_at self.old directory.filesystem.count).inode (number_of object))
+            < most_counted }
+        requires room { length (entries_in
+            ((files_at self.old directory.filesystem.count).tree.node (number_of directory))) < room.old }
+        requires names { ListsNames (files_at self.old directory.filesystem.count).tree (number_of object)
+            (map (exchanged directory.filesystem.count) links.items) }
+        requires place { HasRoomFor links 1 }
+        ensures linked { ChangesInodes directory.filesystem.count
+            (λ inodes. changed nat_eq inodes (AddName (number_of directory) name.items (number_of object)))
+            self.old self.new }
+        ensures promised { inodes_promised self.new directory.filesystem.count
+            ≡ inodes_promised self.old directory.filesystem.count }
+    {
+        let parent = self.slot_of(directory).unwrap();
+        let linked = self.slot_of(object).unwrap();
+        let tree = self.get_mut(directory.filesystem).unwrap();
+        tree.link_promised(parent, name, linked, room, links);
+    }
+
+    /// As `pin`, for a caller that was promised inodes: these stay promised. The inode has fewer than 2^64 - 1 uses, so it
+    /// cannot fail.
+    pub fn pin_promised(&mut self, object: NodeRef)
+        requires there { is_some
+            ((files_at self.old object.filesystem.count).tree.node (number_of object)) ≡ true }
+        requires uses { uses_in ((inodes_at self.old object.filesystem.count).inode (number_of object)) < most_counted }
+        ensures pinned { ChangesInodes object.filesystem.count
+            (λ inodes. pinned nat_eq inodes (number_of object)) self.old self.new }
+        ensures promised { inodes_promised self.new object.filesystem.count
+            ≡ inodes_promised self.old object.filesystem.count }
+    {
+        let held = self.slot_of(object).unwrap();
+        let tree = self.get_mut(object.filesystem).unwrap();
+        tree.count_use(held);
     }
 
     /// As `unlink`, for a caller that was promised inodes: these stay promised.

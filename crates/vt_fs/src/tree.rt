@@ -6,4 +6,5 @@ mod paths;
 mod slots;
 mod trees;
 
+pub use names::LinkRoom;
 pub use trees::Tree;

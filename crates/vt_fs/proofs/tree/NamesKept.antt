@@ -3,7 +3,7 @@ use Rattle.std.proofs.Common.{◌≡◌, refl, sym, ap, subst, ◌⊎◌, inl, i
 use Rattle.vt_spec.proofs.Common.{Content, Directory, Inode, Inodes, Node, Regular, Symlink, Tree, Whiteout, entries-node_with_parent, entries_in, entries_of, entry_named, eqb_tells, has_entry_to, inode_with_node, is_directory, is_sorted, kind_of, name_cmp, new_directory, node_in, node_with_entry, node_with_parent, node_without_entry, pinned, targets_in, tree_of, unpinned, used_once_less, used_once_more, with_changed}
 use Rattle.vt_spec.specs.Inodes.{with_inode, without_replaced}
 use Rattle.vt_fs.proofs.tree.NameCounts.{among_never, most_weaker, named_in_node, named_often, one_if_some, put_in_node, taken_from_node, targets}
-use Rattle.vt_fs.specs.Trees.Names.{NamesAtMost, at_place, how_often, less_at, more_at, names_at, none_at, one_if}
+use Rattle.vt_fs.specs.Trees.Names.{ListsNames, NamesAtMost, at_place, how_often, less_at, listed_as, more_at, names_at, none_at, one_if}
 use Rattle.vt_fs.specs.Trees.Slots.{Slots, inodes_in, put_at}
 
 -- What is listed for the same inodes
@@ -270,3 +270,17 @@ none_keeps tree object most unnamed counted other place = ⊎_elim (λ t. omega 
   ap (λ n. names_at tree n place) t.1,
   among_never object (targets_in (tree.node place)) (unnamed place),
 )) (λ t. omega (arith, ap (λ b. cond b 0 (most other place)) t.0, counted other place)) (eqb_tells other object)
+
+-- what is listed for an object may be others that have its names
+pub listed_keeps : (tree : Tree ℕ) (object : ℕ) (directories : List ℕ) (most : ℕ → ℕ → ℕ)
+    → ListsNames tree object directories → NamesAtMost tree most → NamesAtMost tree (listed_as object directories most)
+listed_keeps tree object directories most lists counted other place = ⊎_elim (λ t. omega (
+  arith,
+  ap (λ b. cond b (how_often place directories) (most other place)) t.0,
+  ap (λ n. names_at tree n place) t.1,
+  lists place,
+)) (λ t. omega (
+  arith,
+  ap (λ b. cond b (how_often place directories) (most other place)) t.0,
+  counted other place,
+)) (eqb_tells other object)

@@ -6,7 +6,7 @@ use Rattle.std.proofs.lemmas.List.Sums.{sum_by-cons, sum_by-swap_remove}
 use Rattle.std.specs.List.{position, prefix_len, refill, sum_by}
 use Rattle.smallvec.specs.SmallVec.{SmallVec}
 use Rattle.vt_spec.proofs.Common.{cases_lt, common_steps, eqb_tells, get_or_past, nat_eq_equiv}
-use Rattle.vt_fs.specs.Trees.Names.{Lists, at_place, directories_for, how_often, less_at, list_for, listings, more_at, none_at, one_if}
+use Rattle.vt_fs.specs.Trees.Names.{Lists, at_place, directories_for, how_often, less_at, list_for, listed_as, listings, more_at, none_at, one_if}
 
 -- One list
 
@@ -128,6 +128,21 @@ module _ (lists : Lists) (object : ℕ) (list : SmallVec ℕ) (within : object <
         ap (λ b. cond b 0 (listings lists other place)) differ,
       ))
 
+  pub listed_anew : (items : List ℕ) (directory : ℕ) → list.items ≡ items ++ directory ∷ []
+      → listings (slice_set lists object list) ≡ more_at object directory (listed_as object items (listings lists))
+  listed_anew items directory pushed = listings_at (more_at object directory (listed_as object items (listings lists)))
+      (λ place. omega (
+        arith,
+        ap (how_often place) pushed,
+        often_pushed place items directory,
+        one_here object directory place,
+        ap (λ b. cond b (how_often place items) (listings lists object place)) (eq-eqb object object refl),
+      )) (λ other place differ. omega (
+        arith,
+        one_elsewhere object directory other place differ,
+        ap (λ b. cond b (how_often place items) (listings lists other place)) differ,
+      ))
+
   pub listed_less : (directory : ℕ)
       → ((place : ℕ) → how_often place list.items
       ≡ how_often place (directories_for lists object) - one_if place directory)
@@ -153,6 +168,12 @@ pub none_absent : (lists : Lists) (object directory : ℕ) → length lists ≤ 
     → listings lists object directory ≡ 0
 none_absent lists object directory past = ap (λ (list : SmallVec ℕ). how_often directory list.items)
     (get_or_past lists object (record { items = []; capacity = 0 }) past)
+
+-- so what is listed for has a list
+pub listed_within : (lists : Lists) (object directory : ℕ) → 1 ≤ listings lists object directory
+    → object < length lists
+listed_within lists object directory some = ⊎_elim (λ within. within)
+    (λ past. absurd (omega (arith, none_absent lists object directory past, some))) (cases_lt object (length lists))
 
 pub listed_absent : (lists : Lists) (object directory : ℕ) → length lists ≤ object
     → listings lists ≡ less_at object directory (listings lists)

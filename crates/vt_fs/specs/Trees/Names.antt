@@ -1,9 +1,10 @@
 -- Which directories have names for an object, and which are listed for it.
-use Rattle.std.specs.Prelude.{List, [], if◌then◌else◌, length, nat_eq, slice_index_or, true, ℕ, ◌+◌, ◌-◌, ◌<◌, ◌∷◌, ◌≡◌, ◌≤◌}
+use Rattle.std.specs.Prelude.{List, Some, [], if◌then◌else◌, length, nat_eq, slice_index_or, true, ℕ, ◌+◌, ◌-◌, ◌<◌, ◌∷◌, ◌≡◌, ◌≤◌}
 use Rattle.smallvec.specs.SmallVec.{HasRoomFor, SmallVec}
 use Rattle.vt_spec.specs.FileTree.{has_entry_to, targets_in}
 use Rattle.vt_spec.specs.Lists.{is_among}
 use Rattle.vt_spec.specs.Tree.{Tree}
+use Rattle.vt_spec.specs.TreeInvariant.{entry_at}
 use Rattle.vt_fs.specs.Trees.Slots.{Slots, slots_len}
 
 -- the lists of all objects, from the number 0 on
@@ -71,3 +72,18 @@ none_at object listed = λ other place. if nat_eq other object then 0 else liste
 abbrev pub HoldsNames : Tree ℕ → ℕ → List ℕ → Type 0
 HoldsNames tree object directories =
     (directory : ℕ) → has_entry_to nat_eq tree directory object ≡ true → is_among nat_eq directory directories ≡ true
+
+-- with these listed for an object
+abbrev pub listed_as : ℕ → List ℕ → (ℕ → ℕ → ℕ) → ℕ → ℕ → ℕ
+listed_as object directories listed =
+    λ other place. if nat_eq other object then how_often place directories else listed other place
+
+-- no directory has more names for an object than it stands among these
+abbrev pub ListsNames : Tree ℕ → ℕ → List ℕ → Type 0
+ListsNames tree object directories = (directory : ℕ) → names_at tree object directory ≤ how_often directory directories
+
+-- an object has a name
+pub record IsNamed (tree : Tree ℕ) (object : ℕ) : Type 0 where
+  pub directory : ℕ
+  pub name : List ℕ
+  pub leads : entry_at tree directory name ≡ Some object

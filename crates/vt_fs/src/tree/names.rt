@@ -1,7 +1,8 @@
 //! Which directories have names for each object.
-ghost use Rattle.std.specs.Prelude.{◌≡◌, ℕ, ◌+◌, ◌-◌, ◌<◌, ◌≤◌, [], length, OnOk, nat_eq};
+ghost use Rattle.std.specs.Prelude.{◌≡◌, ℕ, ◌+◌, ◌-◌, ◌<◌, ◌≤◌, ◌++◌, ◌∷◌, [], length, IfOk, OnOk, nat_eq};
 ghost use Rattle.std.specs.List.{position};
-ghost use Rattle.vt_fs.specs.Trees.Names.{HasRoom, directories_for, how_often, less_at, listings, more_at, none_at, one_if};
+ghost use Rattle.smallvec.specs.SmallVec.{HasRoomFor};
+ghost use Rattle.vt_fs.specs.Trees.Names.{HasRoom, directories_for, how_often, less_at, listed_as, listings, more_at, none_at, one_if};
 
 use smallvec::SmallVec;
 use std::alloc::{AllocError, Global};
@@ -10,6 +11,53 @@ use vt_node::NodeId;
 
 // A directory for each name of an object. Most objects have one name, and two take no memory of their own.
 type Directories = SmallVec<NodeId, 2>;
+
+/// The directories that have the names of one object, with a place for one more: what a further name of it needs. A plan owns
+/// it, so that the name can be made where nothing may fail.
+#[derive(Debug, Drop)]
+pub struct LinkRoom {
+    directories: Directories,
+}
+
+impl Model for LinkRoom {
+    ghost use Rattle.std.specs.Prelude.{ℕ};
+    ghost use Rattle.smallvec.specs.SmallVec.{SmallVec};
+
+    ghost Value = { SmallVec ℕ };
+
+    ghost view = { λ room. room.directories };
+}
+
+impl LinkRoom {
+    /// Of an object that has no name yet, with places for two. It does not allocate.
+    pub fn new(alloc: Global) -> Self
+        ensures directories { result.items ≡ [] }
+        ensures room { HasRoomFor result 2 }
+    {
+        LinkRoom {
+            directories: SmallVec::new(alloc),
+        }
+    }
+
+    // Of an object with names in these directories.
+    pub(crate) fn beside(alloc: Global, directories: &[NodeId]) -> Result<Self, AllocError>
+        ensures directories { IfOk result (λ room. room.items ≡ directories.now) }
+        ensures room { IfOk result (λ room. HasRoomFor room 1) }
+    {
+        let mut list = SmallVec::from_slice(alloc, directories)?;
+        list.reserve(1)?;
+        Ok(LinkRoom { directories: list })
+    }
+
+    /// Lists a directory that has one name more of the object. It does not allocate.
+    pub fn list(&mut self, directory: NodeId)
+        requires { HasRoomFor self.old 1 }
+        ensures directories { self.new.items ≡ self.old.items ++ directory ∷ [] }
+        ensures capacity { self.new.capacity ≡ self.old.capacity }
+    {
+        self.directories.push_reserved(directory);
+    }
+}
 
 /// For the object of each number the directories that have its names, one for each name.
 ///
@@ -80,6 +128,19 @@ impl Names {
     {
         let list = &mut self.lists[object.index()];
         list.push_reserved(directory);
+    }
+
+    /// Lists these directories for an object that has names, and one that has one name more of it. It does not allocate.
+    pub fn replace(&mut self, object: NodeId, room: LinkRoom, directory: NodeId)
+        requires list { object < length self.old }
+        requires room { HasRoomFor room 1 }
+        ensures listings { listings self.new
+            ≡ more_at object directory (listed_as object room.items (listings self.old)) }
+        ensures len { length self.new ≡ length self.old }
+    {
+        let LinkRoom { mut directories } = room;
+        directories.push_reserved(directory);
+        self.lists[object.index()] = directories;
     }
 
     /// Lists a directory that has one name less of an object once less, if it is listed. It does not allocate.

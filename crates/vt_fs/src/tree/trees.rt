@@ -12,13 +12,14 @@ ghost use Rattle.vt_spec.specs.Tree.{is_directory_node, parent_in, entries_in, n
 ghost use Rattle.vt_spec.specs.TreeInvariant.{IsDirectory, entry_at};
 ghost use Rattle.vt_location.specs.Numbers.{most_counted};
 ghost use Rattle.vt_fs.specs.Trees.TreeValue.{inodes_of, tree_of, next_number, with_unnamed};
-ghost use Rattle.vt_fs.specs.Trees.Names.{HoldsNames};
+ghost use Rattle.smallvec.specs.SmallVec.{HasRoomFor};
+ghost use Rattle.vt_fs.specs.Trees.Names.{HoldsNames, IsNamed, ListsNames};
 
 use crate::tree::changes::{
     insert_entry, place_entry, release, remove_entry, remove_object, set_attr, set_bytes,
     set_opaque, set_parent, write_bytes,
 };
-use crate::tree::names::Names;
+use crate::tree::names::{LinkRoom, Names};
 use crate::tree::slots::Slots;
 use std::alloc::{AllocError, Global};
 use std::marker::Model;
@@ -291,6 +292,41 @@ impl Tree {
         Ok(())
     }
 
+    /// The directories that have names for an object, with a place for one more: what `link_promised` takes.
+    pub fn link_room(&self, object: NodeId) -> Result<LinkRoom, AllocError>
+        ensures names { IfOk result (λ room. ListsNames (tree_of self.now) object room.items) }
+        ensures room { IfOk result (λ room. HasRoomFor room 1) }
+    {
+        LinkRoom::beside(self.alloc, self.names.directories(object))
+    }
+
+    /// As `link`, for a caller that has made room for the name: in the directory, and among those that have the object's
+    /// names. It does not allocate.
+    pub fn link_promised(
+        &mut self,
+        directory: NodeId,
+        name: Vec<u8>,
+        object: NodeId,
+        room: &mut EntryRoom,
+        links: LinkRoom,
+    )
+        requires directory { IsDirectory (tree_of self.old) directory }
+        requires free { entry_at (tree_of self.old) directory name.items ≡ None }
+        requires object { is_directory_node ((tree_of self.old).node object) ≡ false }
+        requires named { IsNamed (tree_of self.old) object }
+        requires uses { uses_in ((inodes_of self.old).inode object) < most_counted }
+        requires room { length (entries_in ((tree_of self.old).node directory)) < room.old }
+        requires names { ListsNames (tree_of self.old) object links.items }
+        requires place { HasRoomFor links 1 }
+        ensures linked { inodes_of self.new
+            ≡ changed nat_eq (inodes_of self.old) (AddName directory name.items object) }
+        ensures promised { self.new.promised ≡ self.old.promised }
+    {
+        place_entry(&mut self.slots, directory, name, object, room);
+        self.names.replace(object, links, directory);
+        self.slots.count_use(object);
+    }
+
     /// Removes a name of an object that has no entries: unlink(2), rmdir(2). It is freed with its last use. It does
     /// not allocate.
     pub fn unlink(&mut self, directory: NodeId, name: &[u8], object: NodeId)
@@ -416,6 +452,15 @@ impl Tree {
         ensures err { OnErr result (self.new ≡ self.old) }
     {
         self.slots.acquire(object)
+    }
+
+    /// As `pin`, for a caller that knows that the object has fewer than 2^64 - 1 uses.
+    pub fn count_use(&mut self, object: NodeId)
+        requires { uses_in ((inodes_of self.old).inode object) < most_counted }
+        ensures pinned { inodes_of self.new ≡ pinned nat_eq (inodes_of self.old) object }
+        ensures promised { self.new.promised ≡ self.old.promised }
+    {
+        self.slots.count_use(object);
     }
 
     /// Counts one use less of an object, as close(2) does: it is freed with its last use. It does not allocate.
