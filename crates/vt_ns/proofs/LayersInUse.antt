@@ -3,7 +3,7 @@ use Rattle.std.proofs.Common.{◌≡◌, ◌&&◌, All, filter, nat_eq, refl, �
 use Rattle.vt_spec.proofs.Common.{All-head, All-tail, Filesystem, Layer, Location, Looks, Task, World, filesystem_numbered, in_use, is_overlay, lies_or_counts_under, list_any, of_overlay, overlaps_one_of, overlay_at, upper_and_work, and-false, Overlay, overlay_or}
 use Rattle.vt_layers.specs.LayersValue.{lowers_alone}
 use Rattle.vt_ns.proofs.WithoutUppers.{WritesToNone, all_write_to_none}
-use Rattle.vt_ns.proofs.Common.{WorldValue, world_of}
+use Rattle.vt_ns.proofs.Common.{IsHeld, WorldValue, world_of}
 
 module _ (world : World ℕ) where
   overlaps_none : (layer : Layer ℕ) → overlaps_one_of nat_eq world [] layer ≡ false
@@ -31,10 +31,10 @@ nothing_written (filesystem ∷ rest) none = by (nothing_written rest (All-tail 
     by later (Some overlay) writes =
         ap (λ first. first ++ flat_map (of_overlay [] upper_and_work) (filter is_overlay rest)) writes ∙ later
 
-pub none_in_use : (value : WorldValue) (looks : Looks ℕ) (task : Task ℕ) (lowers : List (Location ℕ))
+pub none_in_use : (value : WorldValue) → IsHeld value → (looks : Looks ℕ) (task : Task ℕ) (lowers : List (Location ℕ))
     → false ≡ in_use nat_eq (world_of value) (overlay_at looks task (lowers_alone lowers))
-none_in_use value looks task lowers =
+none_in_use value held looks task lowers =
     let overlay = overlay_at looks task (lowers_alone lowers) in
     sym (ap (λ written. list_any (overlaps_one_of nat_eq (world_of value) written) overlay.lowers)
-    (nothing_written (world_of value).filesystems (all_write_to_none value))
+    (nothing_written (world_of value).filesystems (all_write_to_none value held))
     ∙ none_overlap (world_of value) overlay.lowers)

@@ -212,13 +212,16 @@ impl Look for World {
         }
     }
 
-    // These two are asked of what has an upper layer, if it is an overlay: so of plain trees.
+    // These two are asked of what has an upper layer, if it is an overlay: so of plain trees. A proof knows what holds of
+    // the world only where a field of it is read.
 
     fn has_lower_directory(&self, _at: Location, _name: &[u8]) -> bool {
+        let _ = &self.store;
         false
     }
 
     fn mounter_may_change(&self, _at: Location, _asked: Asked) -> Result<(), Deny> {
+        let _ = &self.store;
         Ok(())
     }
 }

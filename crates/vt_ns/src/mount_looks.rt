@@ -86,6 +86,8 @@ impl World {
         ensures { result ≡ (looks_of_value self.now).is_in_use
             (overlay_at (looks_of_value self.now) (task_of _who.now) (lowers_alone (lowers_of _lowers.now))) }
     {
+        // No layer is written to: what holds of the store says so.
+        let _ = &self.store;
         false
     }
 

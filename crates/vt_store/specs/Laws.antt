@@ -59,7 +59,7 @@ OverlaysStandStill =
     (old new : Filesystems) (entry : OverlayEntry) → StandsOnLayers old entry
     → All (StaysUnder old new entry) entry.overlay.lowers → StandsOnLayers new entry
 
--- What an overlay shows depends on its layers alone.
+-- What an overlay shows depends on its layers alone, beside its births and what it keeps without a name.
 abbrev pub OverlaysStayWithLayers : Type 0
 OverlaysStayWithLayers =
     (old new : Filesystems) (entry : OverlayEntry) → AreLayers old entry.overlay.lowers

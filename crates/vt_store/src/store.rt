@@ -29,7 +29,7 @@ impl Model for Store {
 impl Store {
     ghost use Rattle.vt_store.specs.StoreValue.{filesystem_in, layered_in};
     ghost use Rattle.vt_store.specs.Lends.{lends_plain};
-    ghost use Rattle.vt_store.specs.Named.{NameEach};
+    ghost use Rattle.vt_store.specs.Named.{NameEach, NameEntries};
 
     /// These plain filesystems, and no overlays. It does not allocate.
     pub fn new(alloc: Global, plain: Filesystems) -> Self
@@ -48,8 +48,8 @@ impl Store {
         &self.plain
     }
 
-    /// The plain filesystems, for a change. It leaves the overlays as they are: what these show changes only with the
-    /// trees of their layers.
+    /// The plain filesystems, for a change. It leaves the overlays as they are, with their births and what they keep
+    /// without a name: what they show changes only with the trees of their layers.
     pub fn plain_mut(&mut self) -> &mut Filesystems
         ensures* writes_back { sem 𝓛 (lends_plain self.entry result) }
         ensures value { result.now ≡ self.old.plain }
@@ -59,7 +59,8 @@ impl Store {
 
     /// The numbers of all overlays, in no order.
     pub fn overlays(&self) -> &[FilesystemId]
-        ensures { NameEach result.now self.now.overlays }
+        ensures overlays { NameEach result.now self.now.overlays }
+        ensures entries { NameEntries result.now self.now.overlays }
     {
         self.overlays.ids()
     }

@@ -12,9 +12,11 @@ use Rattle.vt_fs.specs.FilesystemsValue.{node_seen}
 abbrev pub count_of : ℕ → ℕ
 count_of number = (number - 1) / 4
 
--- a real object in the layers of an overlay, none of which is an upper layer
+-- a real object in the layers of an overlay
 abbrev pub lent_in_layers : World ℕ → Overlay ℕ → Real ℕ → Option (Node ℕ)
-lent_in_layers world overlay (Upper object) = None
+lent_in_layers world overlay (Upper object) =
+    then_some overlay.upper (λ (layer : Layer ℕ). option_map (node_seen (count_of layer.filesystem))
+    ((filesystem_numbered nat_eq world layer.filesystem).files.tree.node object))
 lent_in_layers world overlay (Lower place path) =
     then_some (slice_get overlay.lowers place) (λ (layer : Layer ℕ).
     option_map (node_seen (count_of layer.filesystem)) (node_at_path (open_layer nat_eq world layer) path))

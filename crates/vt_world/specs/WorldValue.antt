@@ -17,12 +17,14 @@ pub record NamespaceEntry : Type 0 where
   pub count : ℕ
   pub tasks : ℕ
 
--- a read-only overlay: its number, the inodes of its tree with their real objects, its layers from the top, who mounted
--- it, and how many mounts show it
+-- an overlay: its number, the inodes of its tree with their real objects, with or without a name; its upper and its work
+-- directory, if it has them, and its lower layers from the top; who mounted it, and how many mounts show it
 pub record OverlayEntry : Type 0 where
   pub number : ℕ
   pub root : ℕ
   pub inodes : List (MergedInode ℕ)
+  pub upper : Option (meant.Layer ℕ)
+  pub work : Option (meant.Layer ℕ)
   pub lowers : List (meant.Layer ℕ)
   pub mounter : Credentials
   pub mounts : ℕ
@@ -46,8 +48,8 @@ namespace_of entry = record { number = counted entry.count; change = 0 }
 abbrev pub overlay_seen : OverlayEntry → meant.Filesystem ℕ
 overlay_seen entry =
     overlay_of_inodes nat_eq entry.number entry.root (record {
-      upper = None;
-      work = None;
+      upper = entry.upper;
+      work = entry.work;
       lowers = entry.lowers;
       mounter = entry.mounter;
       real = λ number. None;

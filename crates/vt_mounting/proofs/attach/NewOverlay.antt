@@ -5,6 +5,7 @@ use Rattle.vt_spec.specs.Machine.Mounts as meant
 use Rattle.vt_mounting.proofs.Common.{CountsItsUses, CountsWhatIsInIt, Filesystems, HasOwnNodes, IsHeld, IsMountedSoOften, OverlayEntry, WorldValue, all_from_among, among-append, among_from_all, among_from_list_all, are_rising, counted, directory_is_there, list_all_from_among, mounts_in, mounts_showing, overlay_of_store, overlay_seen, overlays_seen, world_of}
 use Rattle.vt_store.specs.OverlaysValue as stored
 use Rattle.vt_mounting.proofs.detach.Grouped.{same_has}
+use Rattle.vt_mounting.proofs.detach.LowerKept.{no_upper_seen}
 use Rattle.vt_mounting.proofs.detach.PlainFound.{overlay_among}
 use Rattle.vt_mounting.proofs.attach.AttachedCounts.{times_none}
 use Rattle.vt_mounting.proofs.attach.Beside.{IsBeside, IsReadOnly, is_beside}
@@ -64,7 +65,7 @@ module _ {value : WorldValue} (whole : IsHeld value) {trees : Filesystems} {entr
         };
         locations_stand = was.locations_stand;
         merged = all_seen (λ filesystem. is_overlay filesystem ≡ true) was.merged refl;
-        read_only = all_seen IsReadOnly was.read_only refl;
+        read_only = all_seen IsReadOnly was.read_only (no_upper_seen entry new_entry.no_upper);
         overlays_rise = rises;
         own_nodes = all_seen HasOwnNodes was.own_nodes
             (new_overlay_has_own new_entry);

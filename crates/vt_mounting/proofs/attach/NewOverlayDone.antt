@@ -181,6 +181,7 @@ module _ (value : WorldValue) (whole : IsHeld value) (task : Task ℕ) (graft : 
     beside_it = subst (λ one. IsBeside (record value { overlays = value.overlays ++ one ∷ [] })) (sym stays)
         (new_is_beside whole (record {
           are = shows.are;
+          no_upper = no_upper;
           few = few;
           own = ap (λ (o : OverlayValue). o.number.count) overlay_is ∙ sym count_is;
           small = subst (λ n. n < 18446744073709551616) (sym count_is) small;

@@ -18,7 +18,7 @@ use Rattle.vt_mounting.proofs.attach.NewOverlay.{all_last}
 use Rattle.vt_mounting.proofs.attach.NewOverlayBase.{was_before}
 use Rattle.vt_mounting.proofs.attach.NewOverlaySame.{same_with_layers_held}
 use Rattle.vt_mounting.proofs.attach.NewOverlayUses.{LayersHeld, layers_more_there, overlay_last, uses_then}
-use Rattle.vt_mounting.proofs.detach.LowerKept.{lowers_are}
+use Rattle.vt_mounting.proofs.detach.LowerKept.{layers_are, no_objects}
 
 -- Worlds that are the same but for change numbers and the order of the numbers beside trees
 
@@ -81,7 +81,7 @@ module _ {value : WorldValue} {base : Filesystems} {entry : stored.OverlayEntry}
   layers_when_held : (number : ℕ) → layer_count over_base number
       ≡ layer_count world number + times (λ (inode : Inode). nat_eq inode.0 number) layers
   layers_when_held number = sym (same_worlds_count_layers_alike last over_base same_when_held number)
-      ∙ layers_more_there world over {layers = map layer_seen entry.overlay.lowers} (lowers_are entry no_upper) (λ n. refl) number
+      ∙ layers_more_there world over {layers = map layer_seen entry.overlay.lowers} (layers_are entry no_upper) (no_objects entry no_upper base) number
       ∙ ap (λ n. layer_count world number + n) (held_there number entry.overlay.lowers)
 
   pub mounts_when_held : (one : FilesystemEntry) → Among one base → one.mounts
@@ -139,7 +139,7 @@ module _ {value : WorldValue} {base : Filesystems} {entry : stored.OverlayEntry}
       → is_inode_used last f number ≡ true
   used_still f number is =
       let some = ltb-true 0 (inode_uses world f number) (sym (used_while_counted world f number) ∙ is) in
-      let more = uses_then world over {layers = map layer_seen entry.overlay.lowers} (lowers_are entry no_upper) (λ n. refl) f number in
+      let more = uses_then world over {layers = map layer_seen entry.overlay.lowers} (layers_are entry no_upper) (no_objects entry no_upper base) f number in
       used_while_counted last f number ∙ lt-ltb 0 (inode_uses last f number) (omega (arith, some, more))
 
   -- what has a name is used

@@ -14,7 +14,7 @@ use Rattle.vt_mounting.proofs.attach.NewOverlay.{all_last}
 use Rattle.vt_mounting.proofs.attach.OverlaysNew.{with_layer}
 use Rattle.vt_mounting.proofs.attach.NewBase.{flat_before, found_before}
 use Rattle.vt_mounting.proofs.attach.NewFilesystems.{filesystem_counted}
-use Rattle.vt_mounting.proofs.detach.LowerKept.{lowers_are}
+use Rattle.vt_mounting.proofs.detach.LowerKept.{layers_are, no_objects, no_upper_seen}
 
 -- the directory of a layer
 abbrev pub directory_in : Layer ℕ → Inode
@@ -143,7 +143,8 @@ module _ {value : WorldValue} {base : Filesystems} {entry : stored.OverlayEntry}
   gained_are = map_twice directory_in layer_seen entry.overlay.lowers
 
   pub no_upper_with_it : OverlaysHaveNoUpper (overlay_last value base entry)
-  no_upper_with_it = all_last IsReadOnly world.filesystems over whole.overlays.read_only refl
+  no_upper_with_it = all_last IsReadOnly world.filesystems over whole.overlays.read_only
+      (no_upper_seen entry no_upper)
 
   apart_from_it : (was : FilesystemEntry) → Among was value.filesystems
       → nat_eq (counted was.count) (counted entry.count) ≡ false
@@ -185,7 +186,7 @@ module _ {value : WorldValue} {base : Filesystems} {entry : stored.OverlayEntry}
       (worlds_have_trees world whole.in_world) (all_in_use world whole.in_world).inodes
       (no_upper_is_in_any (overlay_last value base entry) (counted was.count) no_upper_with_it)
       (subst (λ (list : List Inode). Exchanges list [] (counted was.count) world (overlay_last value base entry)) gained_are
-      (layers_are_gained world over {layers = map layer_seen entry.overlay.lowers} (lowers_are entry no_upper) (λ number. refl)
+      (layers_are_gained world over {layers = map layer_seen entry.overlay.lowers} (layers_are entry no_upper) (no_objects entry no_upper base)
       (counted was.count)
       (apart_from_it was m)))
       (subst (λ f. IsCounted world f (inodes_seen was)) (sym (found_plain_one value whole was m))

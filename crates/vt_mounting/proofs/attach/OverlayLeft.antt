@@ -1,10 +1,10 @@
 -- What the permit that mounts an overlay leaves: the plain filesystems that are kept once the layers are held, the
 -- overlay that these show, and a mount of it, but for the order of the numbers beside trees.
 use Rattle.std.proofs.Common.{◌≡◌, refl, sym, ap, subst, ◌∙◌, ℕ, nat_eq, true, false, ◌||◌, List, [], ◌∷◌, ◌++◌, map, flat_map, length, Some, None, is_some, All}
-use Rattle.vt_spec.proofs.Common.{FileTree, Filesystem, Fresh, Location, MergedInode, MountFlags, Overlay, SameFiles, SameFilesystem, SameWorlds, Task, ToMountOverlay, Tree, World, attach, evens, evens-distinct, inode_count, is_among, length_permutation, list_all, list_any, list_any-IsPermutation, merged_inodes, merged_objects, named_in, new_mount, odds, open_layer, overlay_filesystem, served-distinct, shown_layers, targets_in, with_new_filesystem}
+use Rattle.vt_spec.proofs.Common.{Filesystem, Fresh, Location, MergedInode, MountFlags, Overlay, SameFiles, SameFilesystem, SameWorlds, Task, ToMountOverlay, Tree, World, attach, evens, evens-distinct, inode_count, is_among, length_permutation, list_all, list_any, list_any-IsPermutation, merged_inodes, merged_objects, named_in, new_mount, odds, open_layer, overlay_filesystem, served-distinct, shown_layers, targets_in, with_new_filesystem}
 use Rattle.vt_spec.specs.Machine.Merging.{tree_of}
 use Rattle.vt_spec.specs.Machine.Mounts as meant
-use Rattle.vt_mounting.proofs.Common.{AreLayers, Filesystems, Inode, IsGivenToTask, IsHeld, IsShownAlike, OverlayValue, ShowsLayer, ShowsLayers, WorldValue, alike_from_same, all_from_among, counted, filesystems_seen, found_by_number, found_same, has_only_named, inodes_are_the_tree, inodes_have_their_objects, inodes_stay, layer_seen, overlay_of_store, overlay_seen, overlays_seen, same_numbers_are_permuted, sameness_is_an_equivalence, shown, with_objects, world_of, woven}
+use Rattle.vt_mounting.proofs.Common.{AreLayers, Filesystems, Inode, IsGivenToTask, IsHeld, OverlayValue, ShowsLayer, ShowsLayers, WorldValue, alike_from_same, all_from_among, counted, filesystems_seen, found_by_number, found_same, has_only_named, inodes_are_the_tree, inodes_have_their_objects, layer_seen, overlay_of_store, overlay_seen, overlays_seen, same_numbers_are_permuted, sameness_is_an_equivalence, shown, with_objects, world_of, woven}
 use Rattle.vt_laws_trees.proofs.layers.directories.Merged.{merged_lists_numbers}
 use Rattle.vt_laws_trees.specs.Layers.Layers.Mounted as mounted
 use Rattle.vt_laws_trees.proofs.runs.answered.AlikeAttached.{attach_alike}
@@ -18,6 +18,8 @@ use Rattle.vt_laws_trees.proofs.runs.Permuted.{IsPermutation-flat_map, list_all-
 use Rattle.vt_overlay.specs.declared.merge.layers.LayerRef.{LayerRef}
 use Rattle.vt_overlay.specs.MergedTree as Kept
 use Rattle.vt_layered.proofs.StayingKinds.{layered_stay}
+use Rattle.vt_layered.specs.Staying.{ShowsTheSame}
+use Rattle.vt_world.proofs.overlays_kept.inodes.InodesAbove.{layered_inodes_stay}
 use Rattle.vt_store.specs.Laws.{IsSameLayer}
 use Rattle.vt_store.specs.OverlaysValue as stored
 use Rattle.vt_mounting.specs.Detach.Events.{layer_kept, left_by, overlay_kept, supply_of}
@@ -74,16 +76,14 @@ module _ (old base : Filesystems) (entry : stored.OverlayEntry)
             ∙ ap (λ (f : Filesystem ℕ). length f.files.numbers) (found_by_number old count);
       }
 
-  shown_when_held : IsShownAlike old base entry.overlay
-  shown_when_held =
-      let stays = layered_stay old base entry.overlay None
-      (all_from_among (IsSameLayer old base) entry.overlay.lowers (λ layer m. same_layer layer)) in
-      record { tree = ap (λ (f : FileTree ℕ). f.tree) stays.files; real = stays.objects }
+  shown_when_held : ShowsTheSame old base entry.overlay entry.above
+  shown_when_held = layered_stay old base entry.overlay entry.above
+      (all_from_among (IsSameLayer old base) entry.overlay.lowers (λ layer m. same_layer layer))
 
   pub overlay_stays_when_held : overlay_of_store base entry ≡ overlay_of_store old entry
   overlay_stays_when_held = λ i. record (overlay_of_store old entry) {
-    root = (shown_when_held.tree i).root;
-    inodes = inodes_stay old base entry.overlay shown_when_held i;
+    root = (shown_when_held.files i).tree.root;
+    inodes = layered_inodes_stay old base entry.overlay entry.above shown_when_held i;
   }
 
 -- The policy grants a task an overlay without an upper layer.
@@ -172,18 +172,21 @@ module _ {value : WorldValue} {task : Task ℕ} {place : Location ℕ} {overlay 
           (subst (mounted.AreLayers world) seen names_layers.layers) shows_layers
           (subst (λ (supply : Fresh ℕ). (j k : ℕ) → supply j ≡ supply k → j ≡ k) supply_is distinct))
 
-      -- it is the one that a store shows
-      made_same : SameFilesystem made shown_over
-      made_same = record {
+      made_lower : SameFilesystem made (overlay_seen (low.lower_entry entry no_upper value.filesystems))
+      made_lower = record {
         number = made_as_shown.number ∙ ap counted (ap (λ (o : OverlayValue). o.number.count) kept ∙ sym count_is);
-        files = same_inodes (odds (evens fresh) 0) (overlay_of_store value.filesystems entry).root made_inodes
+        files = same_inodes (odds (evens fresh) 0) (Kept.merged_tree value.filesystems entry.overlay).root made_inodes
             (inodes_kept value.filesystems entry.overlay)
             (made_as_shown.files.tree ∙ sym (inodes_are_the_tree value.filesystems entry.overlay));
         overlay = made_as_shown.overlay ∙ (λ i. Some (record (with_objects value.filesystems entry.overlay) {
-          lowers = sym (low.lowers_are entry no_upper) i;
           real = sym (inodes_have_their_objects value.filesystems entry.overlay shows_layers.are) i;
         }));
       }
+
+      -- it is the one that a store shows
+      made_same : SameFilesystem made shown_over
+      made_same = subst (λ one. SameFilesystem made (overlay_seen one))
+          (sym (low.stored_are entry no_upper value.filesystems)) made_lower
 
       module _ (base : Filesystems)
           (held : shown base ≡ map (held_by (map layer_of entry.overlay.lowers)) (shown value.filesystems)) where

@@ -10,7 +10,7 @@ use Rattle.vt_mounting.specs.Detach.Stored.{OverlaysStay, kept, layer_of, merged
 use Rattle.vt_mounting.specs.Detach.Uses.{kept_with, merged_seen}
 use Rattle.vt_mounting.specs.Attach.Grafted.{IsGrafted}
 use Rattle.vt_mounting.specs.Attach.Overlaid.{IsWithOverlay}
-use Rattle.vt_mounting.proofs.detach.LowerKept.{held_are, lowers_are}
+use Rattle.vt_mounting.proofs.detach.LowerKept.{held_are, layers_are}
 use Rattle.vt_mounting.proofs.detach.StoreShown.{kept_lower}
 use Rattle.vt_mounting.proofs.attach.NewOverlayDone.{new_overlay_is_done}
 use Rattle.vt_mounting.proofs.attach.NewOverlayUses.{held_by, held_each}
@@ -25,7 +25,7 @@ merged_are plain overlays lower = map_alike merged_of (λ entry. merged_seen (ov
     (λ entry m. ap (λ layers. record (merged_of entry) { layers = layers })
     (ap (map layer_of) (held_are entry (lower entry m))
     ∙ sym (map_twice (λ (layer : Layer ℕ). (layer.filesystem, layer.directory)) layer_seen entry.overlay.lowers)
-    ∙ ap (map (λ (layer : Layer ℕ). (layer.filesystem, layer.directory))) (sym (lowers_are entry (lower entry m)))))
+    ∙ ap (map (λ (layer : Layer ℕ). (layer.filesystem, layer.directory))) (sym (layers_are entry (lower entry m)))))
     ∙ sym (map_twice merged_seen (overlay_of_store plain) overlays)
 
 module _ (base : WorldValue) (old held new : StoreValue) (whole : IsHeld (with_store old base)) (task : Task ℕ)

@@ -1,10 +1,12 @@
 -- After the mount of an overlay a store shows its overlays as they were, and the new one as its layers showed it before.
 use Rattle.std.proofs.Common.{◌≡◌, refl, sym, ap, subst, ◌∙◌, ⊎_elim, ℕ, nat_eq, nat_lt, ltb-true, lt-ltb, true, false, ◌||◌, List, [], ◌∷◌, ◌++◌, filter, length, map, Option, None, arith, All, ne_eqb}
-use Rattle.vt_spec.proofs.Common.{FileTree, Filesystem, SameFilesystems, and_parts, any_pair, common_steps, is_overlay, length_permutation, list_all, list_any, map-append, map_alike, of_overlay}
-use Rattle.vt_mounting.proofs.Common.{Among, AreLayers, Filesystems, IsHeld, IsShownAlike, OverlayEntry, OverlayValue, StoreValue, WorldValue, all_from_among, among-append, among-map, are_rising, counted, filesystems_seen, found_by_number, found_same, inodes_stay, list_all_from_among, overlay_of_store, overlay_seen, overlays_of_store, overlays_seen, shown, with_store, world_of, woven, woven_lists_are_failing}
+use Rattle.vt_spec.proofs.Common.{Filesystem, SameFilesystems, and_parts, any_pair, common_steps, is_overlay, length_permutation, list_all, list_any, map-append, map_alike, of_overlay}
+use Rattle.vt_mounting.proofs.Common.{Among, AreLayers, Filesystems, IsHeld, OverlayEntry, StoreValue, WorldValue, all_from_among, among-append, among-map, are_rising, counted, filesystems_seen, found_by_number, found_same, list_all_from_among, overlay_of_store, overlay_seen, overlays_of_store, overlays_seen, shown, with_store, world_of, woven, woven_lists_are_failing}
 use Rattle.vt_overlay.specs.declared.merge.layers.LayerRef.{LayerRef}
 use Rattle.vt_store.specs.Laws.{IsSameLayer}
 use Rattle.vt_layered.proofs.StayingKinds.{layered_stay}
+use Rattle.vt_layered.specs.Staying.{ShowsTheSame}
+use Rattle.vt_world.proofs.overlays_kept.inodes.InodesAbove.{layered_inodes_stay}
 use Rattle.vt_store.specs.OverlaysValue as stored
 use Rattle.vt_mounting.specs.Detach.Stored.{OverlaysStay, layer_of, merged_of}
 use Rattle.vt_mounting.specs.Detach.Uses.{overlays_kept}
@@ -42,15 +44,13 @@ same_layer_twice first second =
 shown_still : (old new : Filesystems) (entry : stored.OverlayEntry)
     → ((layer : LayerRef) → IsSameLayer old new layer) → overlay_of_store old entry ≡ overlay_of_store new entry
 shown_still old new entry same = λ i. record (overlay_of_store old entry) {
-  root = (sym alike.tree i).root;
-  inodes = sym (inodes_stay old new entry.overlay alike) i;
+  root = (sym alike.files i).tree.root;
+  inodes = sym (layered_inodes_stay old new entry.overlay entry.above alike) i;
 }
   where
-    alike : IsShownAlike old new entry.overlay
-    alike =
-        let stays = layered_stay old new entry.overlay None
-        (all_from_among (IsSameLayer old new) entry.overlay.lowers (λ layer m. same layer)) in
-        record { tree = ap (λ (f : FileTree ℕ). f.tree) stays.files; real = stays.objects }
+    alike : ShowsTheSame old new entry.overlay entry.above
+    alike = layered_stay old new entry.overlay entry.above
+        (all_from_among (IsSameLayer old new) entry.overlay.lowers (λ layer m. same layer))
 
 -- of worlds that are the same but for these, plain filesystems are
 plain_same : (ones others : List (Filesystem ℕ)) → SameFilesystems ones others

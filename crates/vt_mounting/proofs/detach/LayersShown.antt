@@ -1,6 +1,6 @@
 -- The layers of an overlay of the code's world are directories of the plain trees that are kept, which the world shows.
-use Rattle.std.proofs.Common.{◌≡◌, ◌≤◌, ◌<◌, refl, sym, ap, subst, ◌∙◌, ⊎_elim, ℕ, nat_eq, eqb-true, true, false, true≢false, not, ◌&&◌, List, [], ◌∷◌, length, map, Option, Some, None, unwrap_or, arith, All, nat_le, nat_lt, leb-true}
-use Rattle.vt_spec.proofs.Common.{Filesystem, IsTree, World, and-false, and_parts, common_steps, filesystem_numbered, found_among, found_passes, has_fit_layers, is_directory_node, is_empty_list, is_overlay, is_plain_layer, layers_of, length-map, list_all, most_lowers, not-true, of_overlay}
+use Rattle.std.proofs.Common.{◌≡◌, ◌≤◌, ◌<◌, refl, sym, ap, subst, ◌∙◌, ⊎_elim, ℕ, nat_eq, eqb-true, true, false, true≢false, not, ◌&&◌, List, [], ◌∷◌, ◌++◌, is_some, length, map, Option, Some, None, option_to_list, unwrap_or, arith, All, nat_le, nat_lt, leb-true}
+use Rattle.vt_spec.proofs.Common.{Filesystem, IsTree, Layer, World, and-false, and_parts, common_steps, filesystem_numbered, found_among, found_passes, has_fit_layers, is_directory_node, is_empty_list, is_overlay, is_plain_layer, layers_of, length-map, list_all, list_all-append, most_lowers, none_from_not_some, not-true, of_overlay, same_bool}
 use Rattle.vt_mounting.proofs.Common.{Among, AreLayers, FilesystemEntry, HasOwnInodes, IsHeld, OverlayEntry, ShowsLayer, WorldValue, all_from_among, among-map, among_from_all, among_from_list_all, counted, entry_at, entry_of, filesystem_seen, inode_of, inodes_at, inodes_seen, layer_seen, no_entry, numbered_all, overlay_seen, world_of}
 use Rattle.vt_laws_trees.proofs.trees.Lists.{nth_among}
 use Rattle.vt_location.specs.Numbers.{is_inode_of}
@@ -77,10 +77,17 @@ module _ {value : WorldValue} (held : IsHeld value) (entry : OverlayEntry) (m : 
   among : Among (overlay_seen entry) (world_of value).filesystems
   among = (overlay_among value held.overlays (overlay_seen entry) (among-map overlay_seen value.overlays entry m)).0
 
-  -- it has a layer, and not too many
+  -- it has no upper layer, as none has
+  pub has_no_upper : entry.upper ≡ None
+  has_no_upper = none_from_not_some entry.upper
+      (among_from_all (λ (f : Filesystem ℕ). of_overlay false (λ overlay. is_some overlay.upper) f ≡ false)
+      (world_of value).filesystems held.overlays.read_only (overlay_seen entry) among)
+
+  -- it has a lower layer, and not too many
   pub fits : (not (is_empty_list entry.lowers) ≡ true) × (nat_le (length entry.lowers) most_lowers ≡ true)
   fits = and_parts (not (is_empty_list entry.lowers)) (nat_le (length entry.lowers) most_lowers)
-      (and_parts (not (is_empty_list entry.lowers) && nat_le (length entry.lowers) most_lowers) true
+      (and_parts (not (is_empty_list entry.lowers) && nat_le (length entry.lowers) most_lowers)
+      (same_bool (is_some entry.upper) (is_some entry.work))
       (among_from_list_all (of_overlay true has_fit_layers) (world_of value).filesystems
       held.in_world.overlays.fit_layers
       (overlay_seen entry) among)).0
@@ -91,11 +98,18 @@ module _ {value : WorldValue} (held : IsHeld value) (entry : OverlayEntry) (m : 
   abbrev world : World ℕ
   world = world_of value
 
+  -- what all of two lists pass, all of the second do
+  second_pass : (front back : List (Layer ℕ)) → list_all (is_plain_layer nat_eq (world_of value)) (front ++ back) ≡ true
+      → list_all (is_plain_layer nat_eq (world_of value)) back ≡ true
+  second_pass front back all = (and_parts (list_all (is_plain_layer nat_eq world) front) _
+      (sym (list_all-append (is_plain_layer nat_eq world) front back) ∙ all)).1
+
   all_plain : list_all (is_plain_layer nat_eq (world_of value)) (map layer_seen lowers) ≡ true
   all_plain = subst (λ layers. list_all (is_plain_layer nat_eq (world_of value)) layers ≡ true) same
+      (second_pass (option_to_list entry.upper ++ option_to_list entry.work) entry.lowers
       (among_from_list_all
       (of_overlay true (λ overlay. list_all (is_plain_layer nat_eq (world_of value)) (layers_of overlay)))
-      (world_of value).filesystems held.in_world.overlays.plain_layers (overlay_seen entry) (among held entry m))
+      (world_of value).filesystems held.in_world.overlays.plain_layers (overlay_seen entry) (among held entry m)))
 
   -- they are layers, which the world shows
   pub layers_shown_well : AreLayers value.filesystems lowers × All (ShowsLayer (world_of value) value.filesystems) lowers

@@ -364,7 +364,7 @@ merged_at_first value whole =
     (λ entry m. λ i. record {
       number = entry.number;
       mounts = among_from_all (IsMountedSoOften (world_of value)) value.overlays whole.overlays.mounts entry m i;
-      layers = map (λ layer. (layer.filesystem, layer.directory)) entry.lowers;
+      layers = (merged_seen entry).layers;
     }) ∙ sym (map_twice (merged_in (world_of value)) overlay_seen value.overlays)
     ∙ ap (map (merged_in (world_of value))) (sym (overlays_are value whole.overlays))
 

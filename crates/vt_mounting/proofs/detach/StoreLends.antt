@@ -1,7 +1,7 @@
 -- What a store lends for its nodes is what the world that holds it tells.
 use Rattle.std.proofs.Common.{◌≡◌, refl, sym, ap, ◌∙◌, ℕ, nat_eq, eqb-true, List, Option, Some, None, option_map, arith, All}
 use Rattle.vt_spec.proofs.Common.{Filesystem, Lower, Real, Upper, World, at_path, common_steps, filesystem_numbered, found_among, found_passes, node_at_path, open_layer, slice_get-map, then_some}
-use Rattle.vt_mounting.proofs.Common.{Among, AreLayers, IsHeld, ShowsLayer, StoreValue, WorldValue, among-map, among_from_all, counted, entry_at, entry_in, filesystem_seen, inodes_have_their_objects, layer_seen, number_numbered, overlay_of_store, with_objects, with_store, world_of}
+use Rattle.vt_mounting.proofs.Common.{Among, AreLayers, IsHeld, ShowsLayer, StoreValue, WorldValue, among-map, among_from_all, counted, entry_at, entry_in, filesystem_seen, inodes_have_their_objects, layer_seen, number_numbered, overlay_of_store, overlay_seen, with_objects, with_store, world_of}
 use Rattle.vt_laws_trees.proofs.trees.Lists.{nth_among}
 use Rattle.vt_world.proofs.overlays_kept.lending.ObjectsLent.{real_objects_are_lent}
 use Rattle.vt_world.specs.OverlaysKept.Lending.{lent_on, object_lent}
@@ -16,7 +16,7 @@ use Rattle.vt_store.specs.StoreValue.{lent_in}
 use Rattle.vt_store.specs.StoreValue as stores
 use Rattle.vt_world.specs.Lent.{count_of, lent_by, lent_in_layers, lent_of_world}
 use Rattle.vt_mounting.proofs.detach.LayersShown.{layers_shown_well}
-use Rattle.vt_mounting.proofs.detach.LowerKept.{lent_are, lowers_are}
+use Rattle.vt_mounting.proofs.detach.LowerKept.{lent_are, lowers_are, stored_are}
 use Rattle.vt_mounting.proofs.detach.StoreShown.{kept_lower, overlay_found, plain_found}
 
 count_back : (count : ℕ) → count_of (counted count) ≡ count
@@ -63,8 +63,8 @@ module _ (base : WorldValue) (store : StoreValue) (held : IsHeld (with_store sto
     overlay_is : (filesystem_numbered nat_eq (world_of (with_store store base)) (counted entry.count)).overlay
         ≡ Some (with_objects store.plain entry.overlay)
     overlay_is = ap (λ (f : Filesystem ℕ). f.overlay) (overlay_found base store held entry m)
+        ∙ ap (λ one. (overlay_seen one).overlay) (stored_are entry lower store.plain)
         ∙ (λ i. Some (record (with_objects store.plain entry.overlay) {
-          lowers = lowers_are entry lower i;
           real = inodes_have_their_objects store.plain entry.overlay shown.0 i;
         }))
 

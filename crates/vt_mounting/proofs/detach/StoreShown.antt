@@ -1,17 +1,18 @@
 -- The filesystems of a store are those of the world that holds it.
 use Rattle.std.proofs.Common.{◌≡◌, refl, sym, ap, subst, ◌∙◌, ⊎_elim, ℕ, nat_eq, eq-eqb, Bool, true, false, cond, not, List, [], ◌∷◌, find, Option, Some, None, unwrap_or, option_map, arith, All}
 use Rattle.vt_spec.proofs.Common.{Filesystem, HasOwnParents, IsTree, Tree, World, filesystem_numbered, no_filesystem, none_is_some}
-use Rattle.vt_mounting.proofs.Common.{Among, IsHeld, StoreValue, WorldValue, all_from_among, among-from_map, among-map, counted, counted_test, entry_at, entry_in, filesystem_seen, filesystems_seen, found_by_number, found_filesystem, inodes_are_the_tree, number_numbered, numbered_all, overlay_of_store, overlay_seen, overlays_of_store, overlays_seen, with_store, world_of}
+use Rattle.vt_mounting.proofs.Common.{Among, IsHeld, StoreValue, WorldValue, all_from_among, among-from_map, among-map, counted, counted_test, entry_at, entry_in, filesystem_seen, filesystems_seen, found_by_number, found_filesystem, number_numbered, numbered_all, overlay_of_store, overlay_seen, overlays_of_store, overlays_seen, with_store, world_of}
 use Rattle.vt_laws_worlds.proofs.overlays_stay.weaving.WovenLists.{plain_ones_are_found}
 use Rattle.vt_fs.proofs.Parents.{parents_named}
 use Rattle.vt_fs.specs.Laws.{ParentsAreNamed}
 use Rattle.vt_layered.specs.LayeredValue.{LayeredValue}
+use Rattle.vt_world.proofs.overlays_kept.inodes.InodesAbove.{layered_inodes_are_the_tree}
 use Rattle.vt_store.proofs.KeptObjects.{layered_entry}
 use Rattle.vt_store.proofs.Woven.{is_over, is_plain}
 use Rattle.vt_store.specs.OverlaysValue as stored
 use Rattle.vt_store.specs.StoreValue.{StandOnLayers, StandsOnLayers, files_in, filesystems_of, layered_in}
-use Rattle.vt_mounting.proofs.detach.LayersShown.{fits, layers_number, layers_shown_well}
-use Rattle.vt_mounting.proofs.detach.LowerKept.{keeps_right, lower_of, lowers_are, shown_are}
+use Rattle.vt_mounting.proofs.detach.LayersShown.{fits, has_no_upper, layers_number, layers_shown_well}
+use Rattle.vt_mounting.proofs.detach.LowerKept.{keeps_right, lower_of, lowers_are}
 use Rattle.vt_mounting.proofs.detach.PlainFound.{overlay_among}
 
 -- where none is found, each fails
@@ -40,6 +41,7 @@ module _ (base : WorldValue) (store : StoreValue) (held : IsHeld (with_store sto
   pub kept_lower : (entry : stored.OverlayEntry) → Among entry store.overlays → entry.above ≡ None
   kept_lower entry m = lower_of entry.overlay entry.above
       (fits held (overlay_of_store store.plain entry) (kept_among entry m)).0
+      (has_no_upper held (overlay_of_store store.plain entry) (kept_among entry m))
 
   -- and stand on layers
   pub store_stands : StandOnLayers store
@@ -96,11 +98,10 @@ module _ (base : WorldValue) (store : StoreValue) (held : IsHeld (with_store sto
       by None e = ap (λ (f : Filesystem ℕ). f.files.tree) (is_plain store count e ∙ sym (plain_found count e))
       by (Some layered) e =
           let over = is_over store count layered e in
-          let lower = kept_lower over.entry over.among in
           let number : counted count ≡ counted over.entry.count =
           sym (number_numbered (counted count) (filesystems_of store)) ∙ ap (λ (f : Filesystem ℕ). f.number) over.is in
-          ap (λ (f : Filesystem ℕ). f.files.tree) (over.is ∙ shown_are over.entry lower store.plain)
-          ∙ sym (inodes_are_the_tree store.plain over.entry.overlay)
+          ap (λ (f : Filesystem ℕ). f.files.tree) over.is
+          ∙ sym (layered_inodes_are_the_tree store.plain over.entry.overlay over.entry.above)
           ∙ ap (λ (f : Filesystem ℕ). f.files.tree)
           (sym (ap (filesystem_numbered nat_eq (world_of (with_store store base))) number
           ∙ overlay_found over.entry over.among))

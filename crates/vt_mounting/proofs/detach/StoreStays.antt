@@ -1,14 +1,14 @@
 -- After an event, a store shows the overlays that the world after it has: as they were.
-use Rattle.std.proofs.Common.{◌≡◌, refl, sym, ap, subst, ◌∙◌, ℕ, nat_eq, true, List, map, Some, All}
+use Rattle.std.proofs.Common.{◌≡◌, refl, sym, ap, subst, ◌∙◌, ℕ, nat_eq, true, List, map, None, Some, All}
 use Rattle.vt_spec.proofs.Common.{Filesystem, Permit, SameWorlds, Task, World, filesystem_numbered, is_overlay, length_permutation, map_alike}
 use Rattle.vt_mounting.proofs.Common.{Among, Filesystems, IsGiven, IsHeld, IsShownAlike, OverlayValue, ShowsLayer, ShowsLayers, StoreValue, WorldValue, all_from_among, among-map, among_from_all, counted, found_filesystem, found_same, inodes_have_their_objects, inodes_stay, layer_seen, overlay_of_store, overlay_seen, with_objects, with_store, world_of}
 use Rattle.vt_world.proofs.overlays_kept.events.KeptOverlays.{kept_overlays_stay}
 use Rattle.vt_overlay.specs.declared.merge.layers.LayerRef.{LayerRef}
 use Rattle.vt_store.specs.OverlaysValue as stored
 use Rattle.vt_mounting.specs.Detach.Events.{left_by, supply_of}
-use Rattle.vt_mounting.proofs.detach.LayersShown.{fits, layers_shown_well}
+use Rattle.vt_mounting.proofs.detach.LayersShown.{fits, has_no_upper, layers_shown_well}
 use Rattle.vt_mounting.proofs.detach.PlainFound.{overlay_among}
-use Rattle.vt_mounting.proofs.detach.LowerKept.{lower_of, lowers_are}
+use Rattle.vt_mounting.proofs.detach.LowerKept.{lower_entry, lower_of, lowers_are, stored_are}
 use Rattle.vt_mounting.proofs.detach.StoreShown.{kept_lower, overlay_found}
 
 -- Layers that a world shows, the same world but for change numbers and the order of numbers shows, too.
@@ -58,11 +58,15 @@ module _ (base new_base : WorldValue) (old new : StoreValue) (task : Task ℕ) (
           ∙ ap (λ (overlay : OverlayValue). map layer_seen overlay.lowers) one.3) in
           record { are = shown.0; all = shown.1 }
 
+      -- it has no upper layer
+      low : entry.above ≡ None
+      low = lower_of entry.overlay entry.above (fits there (overlay_of_store old.plain entry) kept).0
+          (has_no_upper there (overlay_of_store old.plain entry) kept)
+
       after : ShowsLayers (left_by (with_store old base) task permit) new.plain entry.overlay
       after =
           let shown = layers_shown_well there (overlay_of_store old.plain entry) kept entry.overlay.lowers
-          (lowers_are entry (lower_of entry.overlay entry.above
-          (fits there (overlay_of_store old.plain entry) kept).0)) in
+          (lowers_are entry low) in
           record {
             are = shown.0;
             all = shown_before becomes new.plain entry.overlay.lowers shown.1;
@@ -77,10 +81,11 @@ module _ (base new_base : WorldValue) (old new : StoreValue) (task : Task ℕ) (
           (sym one.2) ∙ ap (λ (f : Filesystem ℕ). f.overlay) (overlay_found base old held one.0 one.1)
           ∙ subst (λ (overlay : OverlayValue). (overlay_seen (overlay_of_store old.plain
           (record one.0 { overlay = overlay }))).overlay ≡ Some (with_objects old.plain entry.overlay)) (sym one.3)
-          (λ i. Some (record (with_objects old.plain entry.overlay) {
-            lowers = lowers_are (record one.0 { overlay = entry.overlay }) (kept_lower base old held one.0 one.1) i;
+          (ap (λ one. (overlay_seen one).overlay) (stored_are (record one.0 { overlay = entry.overlay })
+          (kept_lower base old held one.0 one.1) old.plain)
+          ∙ (λ i. Some (record (with_objects old.plain entry.overlay) {
             real = inodes_have_their_objects old.plain entry.overlay before.are i;
-          }))
+          })))
 
       -- and is there in the world after it
       is_left : is_overlay (filesystem_numbered nat_eq (left_by (with_store old base) task permit)
@@ -104,10 +109,10 @@ module _ (base new_base : WorldValue) (old new : StoreValue) (task : Task ℕ) (
           held.overlays.named given was_overlay is_left before after
 
       one_stays : overlay_of_store old.plain entry ≡ overlay_of_store new.plain entry
-      one_stays = λ i. record (overlay_of_store old.plain entry) {
+      one_stays = stored_are entry low old.plain ∙ (λ i. record (lower_entry entry low old.plain) {
         root = (sym shown_alike.tree i).root;
         inodes = sym (inodes_stay old.plain new.plain entry.overlay shown_alike) i;
-      }
+      }) ∙ sym (stored_are entry low new.plain)
 
     -- so the world that is left is the one that holds the other store
     pub store_stays : left_value ≡ with_store new new_base

@@ -1,6 +1,6 @@
 -- Mounts and filesystems with their counts, where a use of a location comes or goes: chdir(2), open(2), close(2).
 use Rattle.std.specs.Option.{option_and_then}
-use Rattle.std.specs.Prelude.{Bool, List, None, Option, Some, filter, filter_map, find, if◌then◌else◌, map, nat_eq, not, option_map, unwrap_or, ℕ, ◌+◌, ◌++◌, ◌-◌}
+use Rattle.std.specs.Prelude.{Bool, List, None, Option, Some, filter, filter_map, find, if◌then◌else◌, map, nat_eq, not, option_map, option_to_list, unwrap_or, ℕ, ◌+◌, ◌++◌, ◌-◌}
 use Rattle.vt_laws_mounts.specs.Counts.Using.{pinned_if, unpinned_if}
 use Rattle.vt_fs.specs.FilesystemsValue.{Filesystems, Shown, shown}
 use Rattle.vt_laws_mounts.specs.LettingGo.OneByOne.{Inode}
@@ -15,7 +15,7 @@ use Rattle.vt_mount.specs.MountsValue.{MountEntry, changed, entry_numbered, held
 use Rattle.vt_world.specs.WorldValue.{OverlayEntry, WorldValue}
 pub use Rattle.vt_mount.specs.MountsValue.{is_unused, unused_entry}
 
--- an overlay as it is kept: its number, how many mounts show it, and the directories of its layers
+-- an overlay as it is kept: its number, how many mounts show it, and the directories of its layers, and its work directory
 pub record Merged : Type 0 where
   pub number : ℕ
   pub mounts : ℕ
@@ -36,7 +36,8 @@ abbrev pub merged_seen : OverlayEntry → Merged
 merged_seen entry = record {
   number = entry.number;
   mounts = entry.mounts;
-  layers = map (λ layer. (layer.filesystem, layer.directory)) entry.lowers;
+  layers = map (λ layer. (layer.filesystem, layer.directory))
+      (option_to_list entry.upper ++ option_to_list entry.work ++ entry.lowers);
 }
 
 abbrev pub kept_of : WorldValue → Kept

@@ -13,10 +13,10 @@ use Rattle.vt_fs.specs.Laws.{ParentsAreNamed}
 use Rattle.vt_fs.proofs.Parents.{parents_named}
 use Rattle.vt_overlay.specs.declared.merge.layers.LayerRef.{LayerRef}
 use Rattle.vt_overlay.specs.MergedTree.{layer_seen}
+use Rattle.vt_layered.specs.LayeredTree.{layered_seen}
 use Rattle.vt_layered.specs.LayeredValue.{keeps_object}
 use Rattle.vt_location.specs.Numbers.{exchanged}
-use Rattle.vt_world.specs.StoredWorld.{lowers_of_store}
-use Rattle.vt_mounting.proofs.detach.LowerKept.{held_are, lowers_are}
+use Rattle.vt_mounting.proofs.detach.LowerKept.{held_are, layers_are}
 use Rattle.vt_mounting.proofs.detach.StoreShown.{kept_lower}
 use Rattle.vt_store.specs.Locks.{is_in_layer, keeps_in, lies_in, lies_in_overlay}
 use Rattle.vt_world.specs.Held.{HasOwnInodes}
@@ -83,9 +83,9 @@ module _ (base : WorldValue) (store : StoreValue) (held : IsHeld (with_store sto
   -- the layers of its overlays
   live_are : (entries : List stored.OverlayEntry)
       → flat_map (of_overlay [] layers_of) (overlays_seen (map (overlay_of_store store.plain) entries))
-      ≡ flat_map (λ (entry : stored.OverlayEntry). lowers_of_store entry.overlay entry.above) entries
+      ≡ flat_map (λ (entry : stored.OverlayEntry). layers_of (layered_seen entry.overlay entry.above)) entries
   live_are [] = refl
-  live_are (entry ∷ entries) = ap (λ rest. lowers_of_store entry.overlay entry.above ++ rest) (live_are entries)
+  live_are (entry ∷ entries) = ap (λ rest. layers_of (layered_seen entry.overlay entry.above) ++ rest) (live_are entries)
 
   abbrev in_entry : ℕ → ℕ → stored.OverlayEntry → Bool
   in_entry filesystem number entry =
@@ -101,10 +101,10 @@ module _ (base : WorldValue) (store : StoreValue) (held : IsHeld (with_store sto
       (overlays_are kept held.overlays)
       ∙ ap (list_any (lies_in_layer nat_eq world filesystem number)) (live_are store.overlays)
       ∙ any_flat (lies_in_layer nat_eq world filesystem number)
-      (λ (entry : stored.OverlayEntry). lowers_of_store entry.overlay entry.above) store.overlays
+      (λ (entry : stored.OverlayEntry). layers_of (layered_seen entry.overlay entry.above)) store.overlays
       ∙ any_alike _ (in_entry filesystem number) store.overlays
       (λ entry m. ap (list_any (lies_in_layer nat_eq world filesystem number))
-      (lowers_are entry (kept_lower base store held entry m))
+      (layers_are entry (kept_lower base store held entry m))
       ∙ list_any_of_map (lies_in_layer nat_eq world filesystem number) layer_seen entry.overlay.lowers)
 
   module _ (entry : stored.OverlayEntry) (m : Among entry store.overlays) (layer : LayerRef)
@@ -122,7 +122,7 @@ module _ (base : WorldValue) (store : StoreValue) (held : IsHeld (with_store sto
         (among-map (overlay_of_store store.plain) store.overlays entry m))).0 in
         let all : list_all (is_plain_layer nat_eq world) (map layer_seen entry.overlay.lowers) ≡ true =
         subst (λ layers. list_all (is_plain_layer nat_eq world) layers ≡ true)
-        (lowers_are entry (kept_lower base store held entry m))
+        (layers_are entry (kept_lower base store held entry m))
         (among_from_list_all (of_overlay true (λ overlay. list_all (is_plain_layer nat_eq world) (layers_of overlay)))
         world.filesystems held.in_world.overlays.plain_layers seen among) in
         not-true _ (and_parts (not (is_overlay (filesystem_numbered nat_eq world (counted own)))) _

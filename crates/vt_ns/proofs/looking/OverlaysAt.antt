@@ -1,14 +1,13 @@
 -- The overlays of a store, as the world that holds it shows them.
 use Rattle.std.proofs.Common.{◌≡◌, sym, ap, ◌∙◌, ℕ, nat_eq, Some, None}
 use Rattle.vt_spec.proofs.Common.{Filesystem, Overlay, filesystem_numbered, real_of}
-use Rattle.vt_world.specs.OverlaysKept.Inodes.{inodes_kept}
+use Rattle.vt_world.specs.OverlaysKept.Layered.{inodes_layered}
 use Rattle.vt_laws_trees.proofs.trees.TreesOfWorlds.{number_numbered}
 use Rattle.vt_ns.proofs.Common.{IsHeld, OverlayValue, StoreValue, WorldValue, counted, layered_in, overlay_of_store, with_store, world_of}
-use Rattle.vt_overlay.specs.MergedTree.{overlay_seen}
+use Rattle.vt_layered.specs.LayeredTree.{layered_seen}
 use Rattle.vt_layered.specs.LayeredValue.{LayeredValue}
 use Rattle.vt_store.proofs.Woven.{is_over}
 use Rattle.vt_store.specs.StoreValue.{filesystems_of}
-use Rattle.vt_world.specs.StoredWorld.{lowers_of_store}
 use Rattle.vt_world.specs.WorldValue as worlds
 use Rattle.vt_mounting.proofs.detach.StoreShown.{overlay_found, plain_found}
 
@@ -34,9 +33,9 @@ module _ (base : WorldValue) (store : StoreValue) (held : IsHeld (with_store sto
       ap (filesystem_numbered nat_eq (world_of (with_store store base))) number
       ∙ overlay_found base store held over.entry over.among in
       record {
-        overlay = record (overlay_seen over.entry.overlay) {
-          lowers = lowers_of_store over.entry.overlay over.entry.above;
-          real = real_of nat_eq (inodes_kept store.plain over.entry.overlay);
+        overlay = record (layered_seen over.entry.overlay over.entry.above) {
+          mounter = over.entry.overlay.mounter;
+          real = real_of nat_eq (inodes_layered store.plain over.entry.overlay over.entry.above);
         };
         is = ap (λ (f : Filesystem ℕ). f.overlay) is;
         mounter = ap (λ (one : LayeredValue). one.overlay.mounter) over.holds;

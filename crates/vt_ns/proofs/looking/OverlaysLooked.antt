@@ -61,13 +61,15 @@ module _ (value : WorldValue) (at : meant.Location ℕ) where
   overlay_is = grind (arith, common_steps)
 
   -- it has no upper layer
-  pub no_upper_is : is_some (mounter_on (world_of value) at.mount) ≡ has_no_upper (looks_of_value value) at
-  no_upper_is = grind (arith, common_steps, found_without value (mount_at nat_eq (world_of value) at).filesystem)
+  pub no_upper_is : IsHeld value
+      → is_some (mounter_on (world_of value) at.mount) ≡ has_no_upper (looks_of_value value) at
+  no_upper_is held =
+      grind (arith, common_steps, found_without value held (mount_at nat_eq (world_of value) at).filesystem)
 
   -- so all its objects are in lower ones
   pub only_below_is : IsHeld value
       → is_some (mounter_on (world_of value) at.mount) ≡ is_only_below (looks_of_value value) at
-  only_below_is held = by overlay_here refl (found_without value (mount_at nat_eq (world_of value) at).filesystem)
+  only_below_is held = by overlay_here refl (found_without value held (mount_at nat_eq (world_of value) at).filesystem)
     where
       no_object : (overlay : Overlay ℕ) → overlay_here ≡ Some overlay → (o : Option (Layer ℕ)) → overlay.upper ≡ o
           → is_some o ≡ false → (real : Option (Real ℕ)) → overlay.real at.node ≡ real → upper_object real ≡ None

@@ -1,2 +1,3 @@
 -- What the proofs of src/inodes.rt use.
 pub mod InodesInOrder
+pub mod InodesAbove

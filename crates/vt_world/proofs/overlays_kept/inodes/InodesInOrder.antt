@@ -17,7 +17,7 @@ use Rattle.vt_world.specs.OverlaysKept.Kept.{real_objects}
 -- Objects under some numbers, looked up
 
 module _ {A : Type 0} (at : ℕ → Option A) where
-  abbrev under : List ℕ → List (ℕ × A)
+  abbrev pub under : List ℕ → List (ℕ × A)
   under numbers = filter_map (λ number. option_map (λ a. (number, a)) (at number)) numbers
 
   none_anyhow : (b : Bool) (o : Option A) → o ≡ None → None ≡ cond b o None
@@ -50,7 +50,7 @@ module _ {A : Type 0} (at : ℕ → Option A) where
 
   -- Where all numbers at which something is are among them, each is found so.
   module _ (numbers : List ℕ) (all : (q : ℕ) → is_some (at q) ≡ true → is_among nat_eq q numbers ≡ true) where
-    all_looked : (q : ℕ) → lookup (nat_eq q) (under numbers) ≡ at q
+    pub all_looked : (q : ℕ) → lookup (nat_eq q) (under numbers) ≡ at q
     all_looked q = under_looked numbers q ∙ by (at q) refl
       where
         by : (o : Option A) → at q ≡ o → cond (is_among nat_eq q numbers) o None ≡ o
@@ -72,7 +72,7 @@ module _ {A : Type 0} where
 
 -- Inodes that are made of objects under their numbers
 
-node_looked : (kept : List (ℕ × (Node ℕ × Real ℕ))) (q : ℕ)
+pub node_looked : (kept : List (ℕ × (Node ℕ × Real ℕ))) (q : ℕ)
     → option_map (λ (inode : MergedInode ℕ). inode.node) (find (λ inode. nat_eq q inode.number) (map inode_kept kept))
     ≡ option_map (λ object. object.0) (lookup (nat_eq q) kept)
 node_looked [] q = refl
@@ -86,7 +86,7 @@ node_looked (first ∷ rest) q = by (nat_eq q first.0) (node_looked rest q)
     by true later = refl
     by false later = later
 
-real_looked : (kept : List (ℕ × (Node ℕ × Real ℕ))) (q : ℕ)
+pub real_looked : (kept : List (ℕ × (Node ℕ × Real ℕ))) (q : ℕ)
     → option_map (λ (inode : MergedInode ℕ). inode.real) (find (λ inode. nat_eq q inode.number) (map inode_kept kept))
     ≡ option_map (λ object. object.1) (lookup (nat_eq q) kept)
 real_looked [] q = refl

@@ -5,4 +5,4 @@ use Rattle.vt_ns.proofs.looking.WorldLook.has_no_upper.Goals as goal
 
 pub returns : goal.returns
 returns c = c.is_some.ensures ∙ mounted_by_some c.overlay_on.result ∙ ap is_some c.overlay_on.ensures.mounter
-    ∙ no_upper_is c.args.self.now (location_of c.args.at)
+    ∙ no_upper_is c.args.self.now (location_of c.args.at) c.overlay_on.ensures.held
