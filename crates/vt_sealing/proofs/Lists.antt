@@ -1,10 +1,11 @@
 -- Tests of all elements of a list that pass another test.
 use Rattle.std.proofs.Common.{◌≡◌, ℕ, Bool, true, false, not, cond, ◌&&◌, ◌||◌, List, [], ◌∷◌, ◌++◌, map, filter, flat_map, nat_eq, eqb-true, Option, None, Some, option_map, refl, sym, ap, ◌∙◌, IsPermutation}
-use Rattle.vt_spec.proofs.Common.{Task, each_once, holds_of, list_all, list_all-append, list_any, list_any-IsPermutation, list_any-append}
-use Rattle.vt_location.proofs.AskedLemmas.{any_mapped, any_same}
+use Rattle.vt_spec.proofs.Common.{Task, each_once, holds_of, list_all, list_all-append, list_any, list_any-IsPermutation, list_any-append, or-false}
+use Rattle.vt_location.proofs.AskedLemmas.{any_mapped, any_same, holds_mapped}
+use Rattle.vt_overlay.specs.declared.merge.layers.LayerRef.{LayerRef}
 use Rattle.vt_overlay.specs.MergedTree.{OverlayValue}
-use Rattle.vt_layered.specs.LayeredValue.{LayeredValue}
-use Rattle.vt_store.specs.OverlaysValue.{OverlayEntry, Overlays, entry_kept, layered_of, overlay_of}
+use Rattle.vt_layered.specs.LayeredValue.{Above, LayeredValue, held_layers}
+use Rattle.vt_store.specs.OverlaysValue.{OverlayEntry, Overlays, entry_kept, layered_of}
 use Rattle.vt_tasks.specs.declared.task.Task.{Task as Held}
 use Rattle.vt_tasks.specs.TaskValue.{task_of}
 
@@ -23,6 +24,17 @@ and_turned false false = refl
 and_not : (a b c : Bool) → c ≡ not b → (not a && c) ≡ not (a || b)
 and_not true b c is = refl
 and_not false b c is = is
+
+-- what both fail
+pub neither_of : (a b : Bool) → (not a && not b) ≡ not (a || b)
+neither_of true b = refl
+neither_of false b = refl
+
+and_paired : (a b c d : Bool) → ((a && b) && (c && d)) ≡ ((a && c) && (b && d))
+and_paired false b c d = refl
+and_paired true b true d = refl
+and_paired true true false d = refl
+and_paired true false false d = refl
 
 module _ {A : Type 0} where
   pub some_passing : (p q : A → Bool) (xs : List A) → list_any q (filter p xs) ≡ list_any (λ x. p x && q x) xs
@@ -62,10 +74,27 @@ module _ {A : Type 0} where
   some_within p f (x ∷ xs) =
       list_any-append p (f x) (flat_map f xs) ∙ ap (λ b. list_any p (f x) || b) (some_within p f xs)
 
-  -- a list that others add nothing to
-  pub adding_none : {B : Type 0} (f : A → List B) → ((x : A) → f x ≡ []) → (xs : List A) → flat_map f xs ≡ []
-  adding_none f none [] = refl
-  adding_none f none (x ∷ xs) = λ i. none x i ++ adding_none f none xs i
+  all_within : {B : Type 0} (p : A → Bool) (f : B → List A) (xs : List B)
+      → list_all p (flat_map f xs) ≡ list_all (λ x. list_all p (f x)) xs
+  all_within p f [] = refl
+  all_within p f (x ∷ xs) =
+      list_all-append p (f x) (flat_map f xs) ∙ ap (λ b. list_all p (f x) && b) (all_within p f xs)
+
+  all_both : (p q : A → Bool) (xs : List A) → (list_all p xs && list_all q xs) ≡ list_all (λ x. p x && q x) xs
+  all_both p q [] = refl
+  all_both p q (x ∷ xs) = and_paired (p x) (list_all p xs) (q x) (list_all q xs)
+      ∙ ap (λ b. (p x && q x) && b) (all_both p q xs)
+
+  -- a list, and behind it what each of its elements adds
+  pub all_with_theirs : (p : A → Bool) (f : A → List A) (xs : List A)
+      → list_all p (xs ++ flat_map f xs) ≡ list_all (λ x. p x && list_all p (f x)) xs
+  all_with_theirs p f xs = list_all-append p xs (flat_map f xs) ∙ ap (λ b. list_all p xs && b) (all_within p f xs)
+      ∙ all_both p (λ x. list_all p (f x)) xs
+
+  pub adding_same : {B : Type 0} (f g : A → List B) → ((x : A) → f x ≡ g x) → (xs : List A)
+      → flat_map f xs ≡ flat_map g xs
+  adding_same f g alike [] = refl
+  adding_same f g alike (x ∷ xs) = λ i. alike x i ++ adding_same f g alike xs i
 
 -- each number once, or as often as it stands there
 
@@ -108,14 +137,34 @@ pub holds_both : {A : Type 0} (p : A → Bool) (b : Bool) (o : Option A)
 holds_both p b None = refl
 holds_both p b (Some a) = refl
 
--- an overlay that is found has all its layers
-pub overlay_found : (all : Overlays) (count : ℕ) (found : Option LayeredValue) → found ≡ layered_of all count
-    → option_map (λ (one : LayeredValue). one.overlay) found ≡ overlay_of all count
-overlay_found all count found is = ap (option_map (λ (one : LayeredValue). one.overlay)) is ∙ by (entry_kept all count)
+-- an overlay that is found has all its layers, and what it has beside them
+pub overlay_found : (test : OverlayValue → Option Above → Bool) (all : Overlays) (count : ℕ) (found : Option LayeredValue)
+    → found ≡ layered_of all count
+    → holds_of (λ (one : LayeredValue). test one.overlay one.above) found
+    ≡ holds_of (λ (entry : OverlayEntry). test entry.overlay entry.above) (entry_kept all count)
+overlay_found test all count found is = ap (holds_of (λ (one : LayeredValue). test one.overlay one.above)) is
+    ∙ holds_mapped (λ (one : LayeredValue). test one.overlay one.above)
+    (λ (entry : OverlayEntry). record { overlay = entry.overlay; above = entry.above }) (entry_kept all count)
+
+-- it has the number under which it is found
+pub counted_there : (p : OverlayEntry → Bool) (q : ℕ → Bool) (count : ℕ) (all : Overlays)
+    → holds_of (λ (entry : OverlayEntry). p entry && q count) (entry_kept all count)
+    ≡ holds_of (λ (entry : OverlayEntry). p entry && q entry.count) (entry_kept all count)
+counted_there p q count [] = refl
+counted_there p q count (entry ∷ all) = by (nat_eq count entry.count) refl (counted_there p q count all)
   where
-    by : (kept : Option OverlayEntry)
-        → option_map (λ (one : LayeredValue). one.overlay)
-        (option_map (λ (entry : OverlayEntry). record { overlay = entry.overlay; above = entry.above }) kept)
-        ≡ option_map (λ (entry : OverlayEntry). entry.overlay) kept
-    by None = refl
-    by (Some entry) = refl
+    by : (b : Bool) → nat_eq count entry.count ≡ b
+        → holds_of (λ (entry : OverlayEntry). p entry && q count) (entry_kept all count)
+        ≡ holds_of (λ (entry : OverlayEntry). p entry && q entry.count) (entry_kept all count)
+        → holds_of (λ (entry : OverlayEntry). p entry && q count) (cond b (Some entry) (entry_kept all count))
+        ≡ holds_of (λ (entry : OverlayEntry). p entry && q entry.count) (cond b (Some entry) (entry_kept all count))
+    by true e rest = ap (λ n. p entry && q n) (eqb-true count entry.count e)
+    by false e rest = rest
+
+-- what some layer that is held passes, one of the layers does, or the work directory
+pub held_passes : (test : LayerRef → Bool) (overlay : OverlayValue) (above : Option Above)
+    → (list_any test overlay.lowers || holds_of (λ (one : Above). test one.work) above)
+    ≡ list_any test (held_layers overlay above)
+held_passes test overlay None = or-false (list_any test overlay.lowers)
+held_passes test overlay (Some above) = ap (λ b. list_any test overlay.lowers || b) (sym (or-false (test above.work)))
+    ∙ sym (list_any-append test overlay.lowers (above.work ∷ []))

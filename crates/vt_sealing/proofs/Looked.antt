@@ -1,8 +1,8 @@
 -- What is looked at shows what the definitions say of the world that is looked at.
-use Rattle.std.proofs.Common.{◌≡◌, ℕ, Bool, true, false, not, cond, ◌&&◌, ◌||◌, List, [], ◌∷◌, ◌++◌, find, filter, flat_map, map, nat_eq, eqb-true, eq-eqb, ne_eqb, Option, None, Some, option_map, unwrap_or, append-nil, refl, sym, ap, ◌∙◌}
+use Rattle.std.proofs.Common.{◌≡◌, ℕ, Bool, true, false, not, cond, ◌&&◌, ◌||◌, List, [], ◌∷◌, ◌++◌, drop, find, filter, map, option_to_list, nat_eq, eqb-true, eq-eqb, ne_eqb, Option, None, Some, option_map, unwrap_or, slice_get, refl, sym, ap, ◌∙◌}
 use Rattle.std.specs.Option.{option_or}
-use Rattle.vt_spec.proofs.Common.{Filesystem, Mount, Task, TaskName, World, filesystem_numbered, find-append, has_layer_on, is_overlay, list_all, list_all-append, list_any, mount_at, no_filesystem, no_mount, none_is_some, overlays, same_Some}
-use Rattle.vt_spec.specs.Machine.Sealed.{all_named, change_layers, is_lower_root, is_member_task, is_on_own_mount, is_own_mount, locations, members, no_outsider_on, no_outsider_on_mounts, other_mounts, outsiders, own_mounts, used_alone, used_directly, used_filesystems, share_events, shares_no_events, wholly_locked}
+use Rattle.vt_spec.proofs.Common.{Filesystem, Mount, Task, TaskName, World, filesystem_numbered, find-append, has_layer_on, is_overlay, list_all, list_all-append, list_any, list_any-append, mount_at, no_filesystem, no_mount, none_is_some, overlays, same_Some}
+use Rattle.vt_spec.specs.Machine.Sealed.{all_named, change_layers, is_lower_root, is_member_task, is_on_own_mount, is_own_mount, locations, members, no_outsider_on, no_outsider_on_mounts, other_mounts, outsiders, own_mounts, used_alone, used_directly, share_events, shares_no_events, wholly_locked}
 use Rattle.vt_spec.specs.Machine.World.{Layer, locations_of}
 use Rattle.vt_spec.proofs.Truths.{and_false_right}
 use Rattle.vt_fs.specs.FilesystemsValue.{FilesystemEntry, Filesystems, entry_of, files_at, files_seen, filesystem_seen, filesystems_seen, inodes_seen, no_entry}
@@ -16,10 +16,11 @@ use Rattle.vt_location.specs.Numbers.{counted}
 use Rattle.vt_mount.specs.MountsValue.{mounts_in}
 use Rattle.vt_overlay.specs.MergedTree.{layer_seen}
 use Rattle.vt_overlay.specs.declared.merge.layers.LayerRef.{LayerRef}
-use Rattle.vt_store.specs.OverlaysValue.{OverlayEntry}
-use Rattle.vt_sealing.specs.Seen.{filesystems_looked, has_layer_in, has_root_layer, is_open, is_other_mount, layers_seen, world_seen}
+use Rattle.vt_layered.specs.LayeredValue.{Above, LayeredValue}
+use Rattle.vt_store.specs.OverlaysValue.{OverlayEntry, Overlays, entry_kept, layered_of}
+use Rattle.vt_sealing.specs.Seen.{filesystem_of, filesystems_in_use, filesystems_looked, has_layer_in, has_root_layer, is_open, is_open_through, is_other_mount, layers_seen, lower_layers, stands_in, upper_filesystem, work_filesystem, world_seen, written_under}
 use Rattle.vt_sealing.specs.declared.sealing.Sealing.{Sealing}
-use Rattle.vt_sealing.proofs.Lists.{adding_none, all_mapped, all_once, all_same, neither, none_of, none_passing, some_passing, some_turned, some_within, unless_both}
+use Rattle.vt_sealing.proofs.Lists.{all_mapped, all_same, all_with_theirs, neither, neither_of, none_of, none_passing, some_passing, some_turned, some_within, unless_both}
 
 -- Mounts of locations
 
@@ -89,38 +90,45 @@ filter_parts (x ∷ xs) ys = by (is_overlay x) (filter_parts xs ys)
     by true rest = ap (λ l. x ∷ l) rest
     by false rest = rest
 
-no_changes_plain : (plain : Filesystems) (more : List (Filesystem ℕ)) (number : ℕ)
-    → ((n : ℕ) → change_layers (unwrap_or (find (λ (one : Filesystem ℕ). nat_eq n one.number) more) (no_filesystem n))
-    ≡ [])
-    → change_layers (unwrap_or (find (λ (one : Filesystem ℕ). nat_eq number one.number) (filesystems_seen plain ++ more))
-    (no_filesystem number)) ≡ []
-no_changes_plain [] more number rest = rest number
-no_changes_plain (entry ∷ plain) more number rest =
-    by (nat_eq number (counted entry.count)) (no_changes_plain plain more number rest)
-  where
-    by : (b : Bool) → change_layers (unwrap_or
-        (find (λ (one : Filesystem ℕ). nat_eq number one.number) (filesystems_seen plain ++ more))
-        (no_filesystem number)) ≡ []
-        → change_layers (unwrap_or (cond b (Some (filesystem_seen entry))
-        (find (λ (one : Filesystem ℕ). nat_eq number one.number) (filesystems_seen plain ++ more)))
-        (no_filesystem number)) ≡ []
-    by true others = refl
-    by false others = others
+-- what an overlay writes to is what is found under its number
 
-no_changes_over : (entries : List OverlayEntry) (number : ℕ)
-    → change_layers (unwrap_or (find (λ (one : Filesystem ℕ). nat_eq number one.number) (map layers_seen entries))
-    (no_filesystem number)) ≡ []
-no_changes_over [] number = refl
-no_changes_over (entry ∷ entries) number =
-    by (nat_eq number (counted entry.count)) (no_changes_over entries number)
+written_by : (entry : OverlayEntry) → change_layers (layers_seen entry)
+    ≡ upper_filesystem entry.overlay entry.above ++ work_filesystem entry.above
+written_by entry = by entry.above
   where
-    by : (b : Bool) → change_layers (unwrap_or
-        (find (λ (one : Filesystem ℕ). nat_eq number one.number) (map layers_seen entries)) (no_filesystem number)) ≡ []
+    top : (above : Above) (o : Option LayerRef)
+        → map (λ (layer : Layer ℕ). layer.filesystem)
+        (option_to_list (option_map layer_seen o) ++ option_to_list (Some (layer_seen above.work)))
+        ≡ map filesystem_of (option_to_list o) ++ work_filesystem (Some above)
+    top above None = refl
+    top above (Some layer) = refl
+
+    by : (above : Option Above) → change_layers (layers_seen (record entry { above = above }))
+        ≡ upper_filesystem entry.overlay above ++ work_filesystem above
+    by None = refl
+    by (Some above) = top above (slice_get entry.overlay.lowers 0)
+
+abbrev pub written_of : Option LayeredValue → List ℕ
+written_of None = []
+written_of (Some layered) = upper_filesystem layered.overlay layered.above ++ work_filesystem layered.above
+
+pub written_found : (count : ℕ) (entries : Overlays)
+    → written_under entries (counted count) ≡ written_of (layered_of entries count)
+written_found count [] = refl
+written_found count (entry ∷ entries) =
+    (λ i. change_layers (unwrap_or (cond (counted_test count entry.count i) (Some (layers_seen entry))
+    (find (λ (one : Filesystem ℕ). nat_eq (counted count) one.number) (map layers_seen entries)))
+    (no_filesystem (counted count))))
+    ∙ by (nat_eq count entry.count) (written_found count entries)
+  where
+    by : (b : Bool) → written_under entries (counted count) ≡ written_of (layered_of entries count)
         → change_layers (unwrap_or (cond b (Some (layers_seen entry))
-        (find (λ (one : Filesystem ℕ). nat_eq number one.number) (map layers_seen entries))) (no_filesystem number))
-        ≡ []
-    by true others = refl
-    by false others = others
+        (find (λ (one : Filesystem ℕ). nat_eq (counted count) one.number) (map layers_seen entries)))
+        (no_filesystem (counted count)))
+        ≡ written_of (option_map (λ (entry : OverlayEntry). record { overlay = entry.overlay; above = entry.above })
+        (cond b (Some entry) (entry_kept entries count)))
+    by true rest = written_by entry
+    by false rest = rest
 
 module _ (sealing : Sealing) where
   abbrev world : World ℕ
@@ -132,10 +140,6 @@ module _ (sealing : Sealing) where
   pub overlays_looked : overlays world ≡ map layers_seen sealing.store.now.overlays
   overlays_looked = filter_parts (filesystems_seen sealing.store.now.plain) (map layers_seen sealing.store.now.overlays)
       ∙ (λ i. plain_over sealing.store.now.plain i ++ over_over sealing.store.now.overlays i)
-
-  pub no_changes : (number : ℕ) → change_layers (filesystem_numbered nat_eq world number) ≡ []
-  no_changes number = no_changes_plain sealing.store.now.plain (map layers_seen sealing.store.now.overlays) number
-      (no_changes_over sealing.store.now.overlays)
 
   -- what is found under the number of a filesystem, if it is plain
   found_looked : (count : ℕ) (o : Option FilesystemEntry) → entry_of sealing.store.now.plain count ≡ o
@@ -163,15 +167,46 @@ module _ (sealing : Sealing) where
   -- Layers of an overlay that is looked at
 
   pub layer_in : (filesystem : ℕ) (entry : OverlayEntry)
-      → has_layer_on nat_eq filesystem (layers_seen entry) ≡ has_layer_in filesystem entry.overlay
-  layer_in filesystem entry =
-      any_mapped (λ (layer : Layer ℕ). nat_eq filesystem layer.filesystem) layer_seen entry.overlay.lowers
+      → has_layer_on nat_eq filesystem (layers_seen entry) ≡ has_layer_in filesystem entry.overlay entry.above
+  layer_in filesystem entry = by entry.above
+    where
+      seen_in : Layer ℕ → Bool
+      seen_in layer = nat_eq filesystem layer.filesystem
+
+      or_last : (a b : Bool) → (a || b) ≡ (b || (a || false))
+      or_last true true = refl
+      or_last true false = refl
+      or_last false true = refl
+      or_last false false = refl
+
+      behind : (work : LayerRef) (layers : List LayerRef)
+          → list_any seen_in (option_to_list (option_map layer_seen (slice_get layers 0))
+          ++ option_to_list (Some (layer_seen work)) ++ map layer_seen (drop 1 layers))
+          ≡ list_any (stands_in filesystem) (layers ++ work ∷ [])
+      behind work [] = refl
+      behind work (top ∷ layers) = ap (λ b. stands_in filesystem top || b)
+          (ap (λ b. stands_in filesystem work || b) (any_mapped seen_in layer_seen layers)
+          ∙ or_last (stands_in filesystem work) (list_any (stands_in filesystem) layers)
+          ∙ sym (list_any-append (stands_in filesystem) layers (work ∷ [])))
+
+      by : (above : Option Above) → has_layer_on nat_eq filesystem (layers_seen (record entry { above = above }))
+          ≡ has_layer_in filesystem entry.overlay above
+      by None = any_mapped seen_in layer_seen entry.overlay.lowers
+      by (Some above) = behind above.work entry.overlay.lowers
 
   pub root_layer : (filesystem root : ℕ) (entry : OverlayEntry)
-      → is_lower_root nat_eq filesystem root (layers_seen entry) ≡ has_root_layer filesystem root entry.overlay
-  root_layer filesystem root entry =
-      any_mapped (λ (layer : Layer ℕ). nat_eq filesystem layer.filesystem && nat_eq root layer.directory) layer_seen
-      entry.overlay.lowers
+      → is_lower_root nat_eq filesystem root (layers_seen entry)
+      ≡ has_root_layer filesystem root entry.overlay entry.above
+  root_layer filesystem root entry = by entry.above
+    where
+      seen_at : Layer ℕ → Bool
+      seen_at layer = nat_eq filesystem layer.filesystem && nat_eq root layer.directory
+
+      by : (above : Option Above)
+          → is_lower_root nat_eq filesystem root (layers_seen (record entry { above = above }))
+          ≡ has_root_layer filesystem root entry.overlay above
+      by None = any_mapped seen_at layer_seen entry.overlay.lowers
+      by (Some above) = any_mapped seen_at layer_seen (drop 1 entry.overlay.lowers)
 
   -- No other uses a filesystem
 
@@ -191,26 +226,26 @@ module _ (sealing : Sealing) where
 
   pub alone_looked : (filesystem : ℕ) → used_alone nat_eq world names filesystem
       ≡ (no_outsider_on nat_eq world names filesystem
-      && not (list_any (λ (entry : OverlayEntry). has_layer_in filesystem entry.overlay
+      && not (list_any (λ (entry : OverlayEntry). has_layer_in filesystem entry.overlay entry.above
       && not (no_outsider_on nat_eq world names (counted entry.count))) sealing.store.now.overlays))
   alone_looked filesystem = ap (λ b. no_outsider_on nat_eq world names filesystem && b)
       (ap (list_all (λ (merged : Filesystem ℕ). not (has_layer_on nat_eq filesystem merged)
       || no_outsider_on nat_eq world names merged.number)) overlays_looked
       ∙ all_mapped (λ (merged : Filesystem ℕ). not (has_layer_on nat_eq filesystem merged)
       || no_outsider_on nat_eq world names merged.number) layers_seen sealing.store.now.overlays
-      ∙ all_same _ (λ (entry : OverlayEntry). not (has_layer_in filesystem entry.overlay
+      ∙ all_same _ (λ (entry : OverlayEntry). not (has_layer_in filesystem entry.overlay entry.above
       && not (no_outsider_on nat_eq world names (counted entry.count)))) (λ entry.
       ap (λ b. not b || no_outsider_on nat_eq world names (counted entry.count)) (layer_in filesystem entry)
-      ∙ unless_both (has_layer_in filesystem entry.overlay)
+      ∙ unless_both (has_layer_in filesystem entry.overlay entry.above)
       (no_outsider_on nat_eq world names (counted entry.count))) sealing.store.now.overlays
-      ∙ none_of (λ (entry : OverlayEntry). has_layer_in filesystem entry.overlay
+      ∙ none_of (λ (entry : OverlayEntry). has_layer_in filesystem entry.overlay entry.above
       && not (no_outsider_on nat_eq world names (counted entry.count))) sealing.store.now.overlays)
 
   -- A root that is a layer
 
   abbrev pub locks : ℕ → ℕ → OverlayEntry → Bool
   locks filesystem root entry =
-      has_root_layer filesystem root entry.overlay && used_alone nat_eq world names (counted entry.count)
+      has_root_layer filesystem root entry.overlay entry.above && used_alone nat_eq world names (counted entry.count)
 
   pub locked_looked : (filesystem root : ℕ)
       → list_any (λ (merged : Filesystem ℕ). is_lower_root nat_eq filesystem root merged
@@ -241,7 +276,8 @@ module _ (sealing : Sealing) where
   no_locks filesystem count [] = refl
   no_locks filesystem count (entry ∷ entries) =
       ap (λ b. (b && used_alone nat_eq world names (counted entry.count))
-      || list_any (locks filesystem (counted count)) entries) (none_at filesystem count entry.overlay.lowers)
+      || list_any (locks filesystem (counted count)) entries) (none_at filesystem count
+      (lower_layers entry.overlay entry.above))
       ∙ no_locks filesystem count entries
 
   -- a filesystem that is no plain one is not wholly locked
@@ -273,41 +309,53 @@ module _ (sealing : Sealing) where
   open_looked filesystem =
       neither (used_alone nat_eq world names filesystem) (wholly_locked nat_eq world names filesystem)
 
-  pub used_looked : list_all secured (used_filesystems nat_eq world names)
+  abbrev written : ℕ → List ℕ
+  written filesystem = written_under sealing.store.now.overlays filesystem
+
+  -- a filesystem, and those to which its changes are written
+  abbrev all_secured : ℕ → Bool
+  all_secured filesystem = secured filesystem && list_all secured (written filesystem)
+
+  through_looked : (filesystem : ℕ) → all_secured filesystem ≡ not (is_open_through sealing filesystem)
+  through_looked filesystem = (λ i. open_looked filesystem i && written_looked i)
+      ∙ neither_of (is_open world names filesystem) (list_any (is_open world names) (written filesystem))
+    where
+      written_looked : list_all secured (written filesystem) ≡ not (list_any (is_open world names) (written filesystem))
+      written_looked = all_same secured (λ one. not (is_open world names one)) open_looked (written filesystem)
+          ∙ none_of (is_open world names) (written filesystem)
+
+  pub used_looked : list_all secured (filesystems_in_use sealing)
       ≡ (not (list_any (λ (mount : Mount ℕ). is_own_mount nat_eq world names mount
-      && is_open world names mount.filesystem) world.mounts)
+      && is_open_through sealing mount.filesystem) world.mounts)
       && not (list_any (λ (task : Task ℕ). is_member_task names task
-      && list_any (λ location. is_open world names (mount_at nat_eq world location).filesystem) (locations_of task))
+      && list_any (λ location. is_open_through sealing (mount_at nat_eq world location).filesystem) (locations_of task))
       world.tasks))
-  used_looked = all_once secured _
-      ∙ ap (λ more. list_all secured (used_directly nat_eq world names ++ more))
-      (adding_none (λ number. change_layers (filesystem_numbered nat_eq world number)) no_changes
-      (used_directly nat_eq world names))
-      ∙ ap (list_all secured) (append-nil (used_directly nat_eq world names))
-      ∙ list_all-append secured (map (λ (mount : Mount ℕ). mount.filesystem) (own_mounts nat_eq world names)) _
+  used_looked = all_with_theirs secured written (used_directly nat_eq world names)
+      ∙ list_all-append all_secured (map (λ (mount : Mount ℕ). mount.filesystem) (own_mounts nat_eq world names)) _
       ∙ (λ i. own i && at i)
     where
-      own : list_all secured (map (λ (mount : Mount ℕ). mount.filesystem) (own_mounts nat_eq world names))
+      own : list_all all_secured (map (λ (mount : Mount ℕ). mount.filesystem) (own_mounts nat_eq world names))
           ≡ not (list_any (λ (mount : Mount ℕ). is_own_mount nat_eq world names mount
-          && is_open world names mount.filesystem) world.mounts)
-      own = all_mapped secured (λ (mount : Mount ℕ). mount.filesystem) (own_mounts nat_eq world names)
-          ∙ all_same _ _ (λ mount. open_looked mount.filesystem) (own_mounts nat_eq world names)
-          ∙ none_passing (is_own_mount nat_eq world names) (λ mount. is_open world names mount.filesystem) world.mounts
+          && is_open_through sealing mount.filesystem) world.mounts)
+      own = all_mapped all_secured (λ (mount : Mount ℕ). mount.filesystem) (own_mounts nat_eq world names)
+          ∙ all_same _ _ (λ mount. through_looked mount.filesystem) (own_mounts nat_eq world names)
+          ∙ none_passing (is_own_mount nat_eq world names) (λ mount. is_open_through sealing mount.filesystem) world.mounts
 
-      at : list_all secured (map (λ location. (mount_at nat_eq world location).filesystem)
+      at : list_all all_secured (map (λ location. (mount_at nat_eq world location).filesystem)
           (locations (members world names)))
           ≡ not (list_any (λ (task : Task ℕ). is_member_task names task
-          && list_any (λ location. is_open world names (mount_at nat_eq world location).filesystem) (locations_of task))
-          world.tasks)
-      at = all_mapped secured (λ location. (mount_at nat_eq world location).filesystem) (locations (members world names))
-          ∙ all_same _ _ (λ location. open_looked (mount_at nat_eq world location).filesystem)
+          && list_any (λ location. is_open_through sealing (mount_at nat_eq world location).filesystem)
+          (locations_of task)) world.tasks)
+      at = all_mapped all_secured (λ location. (mount_at nat_eq world location).filesystem)
           (locations (members world names))
-          ∙ none_of (λ location. is_open world names (mount_at nat_eq world location).filesystem)
+          ∙ all_same _ _ (λ location. through_looked (mount_at nat_eq world location).filesystem)
           (locations (members world names))
-          ∙ ap not (some_within (λ location. is_open world names (mount_at nat_eq world location).filesystem)
+          ∙ none_of (λ location. is_open_through sealing (mount_at nat_eq world location).filesystem)
+          (locations (members world names))
+          ∙ ap not (some_within (λ location. is_open_through sealing (mount_at nat_eq world location).filesystem)
           locations_of (members world names)
           ∙ some_passing (is_member_task names) (λ (task : Task ℕ). list_any (λ location.
-          is_open world names (mount_at nat_eq world location).filesystem) (locations_of task)) world.tasks)
+          is_open_through sealing (mount_at nat_eq world location).filesystem) (locations_of task)) world.tasks)
 
   -- no outsider is on a mount
   pub places_looked : no_outsider_on_mounts nat_eq world names

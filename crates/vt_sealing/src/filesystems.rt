@@ -2,17 +2,19 @@
 ghost use Rattle.std.specs.Prelude.{◌≡◌, ◌&&◌, ◌||◌, find, map, nat_eq, not};
 ghost use Rattle.std.specs.List.{list_all, list_any};
 ghost use Rattle.vt_spec.specs.Lists.{holds_of};
-ghost use Rattle.vt_spec.specs.Machine.Sealed.{is_lower_root, is_member_task, is_own_mount, no_outsider_on, used_alone, used_filesystems, wholly_locked};
+ghost use Rattle.vt_spec.specs.Machine.Sealed.{is_member_task, is_own_mount, no_outsider_on, used_alone, wholly_locked};
 ghost use Rattle.vt_spec.specs.Machine.World.{locations_of, mount_at};
-ghost use Rattle.vt_location.specs.Locations.{inode_of, location_of, number_of};
+ghost use Rattle.vt_location.specs.Locations.{location_of, number_of};
 ghost use Rattle.vt_location.specs.Numbers.{counted, filesystem_number, mount_number};
 ghost use Rattle.vt_mount.specs.MountsValue.{mounts_in};
-ghost use Rattle.vt_store.specs.OverlaysValue.{overlay_of};
+ghost use Rattle.vt_store.specs.OverlaysValue.{entry_kept};
 ghost use Rattle.vt_tasks.specs.TaskValue.{task_of};
-ghost use Rattle.vt_sealing.specs.Seen.{has_layer_in, has_root_layer, is_open, is_other_mount, world_seen};
+ghost use Rattle.vt_sealing.specs.Seen.{filesystems_in_use, has_layer_in, has_root_layer, is_open, is_open_through, is_other_mount, upper_filesystem, work_filesystem, world_seen, written_under};
 
+use crate::layers::{has_layer_in, has_lower_at, upper_of};
 use crate::sealing::Sealing;
-use vt_location::{FilesystemId, InodeRef, Location, MountId, NodeRef};
+use vt_layered::Layered;
+use vt_location::{FilesystemId, Location, MountId, NodeRef};
 use vt_tasks::Task;
 
 impl Sealing<'_> {
@@ -20,8 +22,7 @@ impl Sealing<'_> {
     pub(crate) fn has_no_open_filesystem(&self) -> bool
         ensures { result ≡ list_all (λ filesystem.
             used_alone nat_eq (world_seen self.now) self.now.names.now filesystem
-            || wholly_locked nat_eq (world_seen self.now) self.now.names.now filesystem)
-            (used_filesystems nat_eq (world_seen self.now) self.now.names.now) }
+            || wholly_locked nat_eq (world_seen self.now) self.now.names.now filesystem) (filesystems_in_use self.now) }
     {
         !self.have_open_mount() && !self.have_member_in_open()
     }
@@ -29,7 +30,7 @@ impl Sealing<'_> {
     // Whether a mount of members shows a filesystem that outsiders can change.
     fn have_open_mount(&self) -> bool
         ensures { result ≡ list_any (λ mount. is_own_mount nat_eq (world_seen self.now) self.now.names.now mount
-            && is_open (world_seen self.now) self.now.names.now mount.filesystem) (mounts_in self.now.mounts.now) }
+            && is_open_through self.now mount.filesystem) (mounts_in self.now.mounts.now) }
     {
         self.mounts.ids().iter().any(|id| self.is_own_of_open(*id))
     }
@@ -37,7 +38,7 @@ impl Sealing<'_> {
     // Whether a member is at a location in a filesystem that outsiders can change.
     fn have_member_in_open(&self) -> bool
         ensures { result ≡ list_any (λ task. is_member_task self.now.names.now task
-            && list_any (λ location. is_open (world_seen self.now) self.now.names.now
+            && list_any (λ location. is_open_through self.now
             (mount_at nat_eq (world_seen self.now) location).filesystem) (locations_of task)) self.now.tasks.now.tasks }
     {
         self.tasks
@@ -49,11 +50,11 @@ impl Sealing<'_> {
     // Whether a mount is one of members that shows a filesystem that outsiders can change.
     fn is_own_of_open(&self, id: MountId) -> bool
         ensures { result ≡ holds_of (λ mount. is_own_mount nat_eq (world_seen self.now) self.now.names.now mount
-            && is_open (world_seen self.now) self.now.names.now mount.filesystem)
+            && is_open_through self.now mount.filesystem)
             (find (λ mount. nat_eq (mount_number id) mount.number) (mounts_in self.now.mounts.now)) }
     {
         match self.mounts.get(id) {
-            Some(mount) => self.is_own_mount(&mount) && self.is_open(mount.root.filesystem),
+            Some(mount) => self.is_own_mount(&mount) && self.is_open_through(mount.root.filesystem),
             None => false,
         }
     }
@@ -61,7 +62,7 @@ impl Sealing<'_> {
     // Whether a task is a member at a location in a filesystem that outsiders can change.
     fn is_member_in_open(&self, task: &Task) -> bool
         ensures { result ≡ (is_member_task self.now.names.now (task_of task.now)
-            && list_any (λ location. is_open (world_seen self.now) self.now.names.now
+            && list_any (λ location. is_open_through self.now
             (mount_at nat_eq (world_seen self.now) location).filesystem) (locations_of (task_of task.now))) }
     {
         self.is_member(task) && self.is_at_open(task)
@@ -69,7 +70,7 @@ impl Sealing<'_> {
 
     // Whether a task is at a location in a filesystem that outsiders can change.
     fn is_at_open(&self, task: &Task) -> bool
-        ensures { result ≡ list_any (λ location. is_open (world_seen self.now) self.now.names.now
+        ensures { result ≡ list_any (λ location. is_open_through self.now
             (mount_at nat_eq (world_seen self.now) location).filesystem) (locations_of (task_of task.now)) }
     {
         self.is_in_open(task.root) || self.is_in_open(task.directory) || self.has_file_in_open(task)
@@ -77,7 +78,7 @@ impl Sealing<'_> {
 
     // Whether a task has an open file in a filesystem that outsiders can change.
     fn has_file_in_open(&self, task: &Task) -> bool
-        ensures { result ≡ list_any (λ location. is_open (world_seen self.now) self.now.names.now
+        ensures { result ≡ list_any (λ location. is_open_through self.now
             (mount_at nat_eq (world_seen self.now) location).filesystem)
             (map (λ descriptor. descriptor.location) (task_of task.now).descriptors) }
     {
@@ -89,10 +90,60 @@ impl Sealing<'_> {
 
     // Whether a location is in a filesystem that outsiders can change.
     fn is_in_open(&self, at: Location) -> bool
-        ensures { result ≡ is_open (world_seen self.now) self.now.names.now
+        ensures { result ≡ is_open_through self.now
             (mount_at nat_eq (world_seen self.now) (location_of at)).filesystem }
     {
-        self.is_open(self.filesystem_at(at))
+        self.is_open_through(self.filesystem_at(at))
+    }
+
+    // Whether outsiders can change a filesystem, or one to which its changes are written: an overlay writes to the
+    // filesystems of its upper directory and its work directory.
+    fn is_open_through(&self, filesystem: FilesystemId) -> bool
+        ensures { result ≡ is_open_through self.now (filesystem_number filesystem) }
+    {
+        self.is_open(filesystem) || self.writes_to_open(filesystem)
+    }
+
+    // Whether it is an overlay that writes to a filesystem that outsiders can change.
+    fn writes_to_open(&self, filesystem: FilesystemId) -> bool
+        ensures { result ≡ list_any (is_open (world_seen self.now) self.now.names.now)
+            (written_under self.now.store.now.overlays (filesystem_number filesystem)) }
+    {
+        match self.store.overlay(filesystem) {
+            Some(overlay) => self.has_open_above(overlay),
+            None => false,
+        }
+    }
+
+    // Whether outsiders can change the filesystem of the upper or of the work directory of an overlay.
+    fn has_open_above(&self, overlay: &Layered) -> bool
+        ensures { result ≡ (list_any (is_open (world_seen self.now) self.now.names.now)
+            (upper_filesystem overlay.now.overlay overlay.now.above)
+            || list_any (is_open (world_seen self.now) self.now.names.now) (work_filesystem overlay.now.above)) }
+    {
+        self.has_open_upper(overlay) || self.has_open_work(overlay)
+    }
+
+    // Whether outsiders can change the filesystem of the upper directory of an overlay.
+    fn has_open_upper(&self, overlay: &Layered) -> bool
+        ensures { result ≡ list_any (is_open (world_seen self.now) self.now.names.now)
+            (upper_filesystem overlay.now.overlay overlay.now.above) }
+    {
+        match upper_of(overlay) {
+            Some(upper) => self.is_open(upper.directory.filesystem),
+            None => false,
+        }
+    }
+
+    // Whether outsiders can change the filesystem of the work directory of an overlay.
+    fn has_open_work(&self, overlay: &Layered) -> bool
+        ensures { result
+            ≡ list_any (is_open (world_seen self.now) self.now.names.now) (work_filesystem overlay.now.above) }
+    {
+        match overlay.work() {
+            Some(work) => self.is_open(work.directory.filesystem),
+            None => false,
+        }
     }
 
     // Whether outsiders can change a filesystem: members do not use it alone, and it is not wholly locked for them.
@@ -112,7 +163,7 @@ impl Sealing<'_> {
 
     // Whether an overlay that outsiders use has a layer in a filesystem.
     fn is_under_others(&self, filesystem: FilesystemId) -> bool
-        ensures { result ≡ list_any (λ entry. has_layer_in (filesystem_number filesystem) entry.overlay
+        ensures { result ≡ list_any (λ entry. has_layer_in (filesystem_number filesystem) entry.overlay entry.above
             && not (no_outsider_on nat_eq (world_seen self.now) self.now.names.now (counted entry.count)))
             self.now.store.now.overlays }
     {
@@ -124,23 +175,20 @@ impl Sealing<'_> {
 
     // Whether an overlay has a layer in a filesystem, and outsiders use the overlay.
     fn is_over_for_others(&self, id: FilesystemId, filesystem: FilesystemId) -> bool
-        ensures { result ≡ holds_of (λ overlay. has_layer_in (filesystem_number filesystem) overlay
-            && not (no_outsider_on nat_eq (world_seen self.now) self.now.names.now (filesystem_number id)))
-            (overlay_of self.now.store.now.overlays id.count) }
+        ensures { result ≡ holds_of (λ entry. has_layer_in (filesystem_number filesystem) entry.overlay entry.above
+            && not (no_outsider_on nat_eq (world_seen self.now) self.now.names.now (counted entry.count)))
+            (entry_kept self.now.store.now.overlays id.count) }
     {
         self.has_layer_in(id, filesystem) && !self.no_outsider_on(id)
     }
 
     // Whether there is an overlay of a number with a layer in a filesystem.
     fn has_layer_in(&self, id: FilesystemId, filesystem: FilesystemId) -> bool
-        ensures { result ≡ holds_of (has_layer_in (filesystem_number filesystem))
-            (overlay_of self.now.store.now.overlays id.count) }
+        ensures { result ≡ holds_of (λ entry. has_layer_in (filesystem_number filesystem) entry.overlay entry.above)
+            (entry_kept self.now.store.now.overlays id.count) }
     {
         match self.store.overlay(id) {
-            Some(overlay) => overlay
-                .layers()
-                .iter()
-                .any(|layer| is_in(layer.directory, filesystem)),
+            Some(overlay) => has_layer_in(overlay, filesystem),
             None => false,
         }
     }
@@ -242,7 +290,7 @@ impl Sealing<'_> {
     // Whether the root directory of a filesystem is a lower layer of an overlay that members use alone.
     fn is_locked_root(&self, root: NodeRef) -> bool
         ensures { result ≡ list_any (λ entry. has_root_layer (filesystem_number root.filesystem) (number_of root)
-            entry.overlay && used_alone nat_eq (world_seen self.now) self.now.names.now (counted entry.count))
+            entry.overlay entry.above && used_alone nat_eq (world_seen self.now) self.now.names.now (counted entry.count))
             self.now.store.now.overlays }
     {
         self.store
@@ -253,39 +301,21 @@ impl Sealing<'_> {
 
     // Whether there is an overlay of a number that members use alone, with this root directory as a lower layer.
     fn locks_root(&self, id: FilesystemId, root: NodeRef) -> bool
-        ensures { result ≡ holds_of (λ overlay. has_root_layer (filesystem_number root.filesystem) (number_of root)
-            overlay && used_alone nat_eq (world_seen self.now) self.now.names.now (filesystem_number id))
-            (overlay_of self.now.store.now.overlays id.count) }
+        ensures { result ≡ holds_of (λ entry. has_root_layer (filesystem_number root.filesystem) (number_of root)
+            entry.overlay entry.above && used_alone nat_eq (world_seen self.now) self.now.names.now (counted entry.count))
+            (entry_kept self.now.store.now.overlays id.count) }
     {
         self.has_root_layer(id, root) && self.used_alone(id)
     }
 
     // Whether there is an overlay of a number with this root directory as a lower layer.
     fn has_root_layer(&self, id: FilesystemId, root: NodeRef) -> bool
-        ensures { result ≡ holds_of (has_root_layer (filesystem_number root.filesystem) (number_of root))
-            (overlay_of self.now.store.now.overlays id.count) }
+        ensures { result ≡ holds_of (λ entry. has_root_layer (filesystem_number root.filesystem) (number_of root)
+            entry.overlay entry.above) (entry_kept self.now.store.now.overlays id.count) }
     {
         match self.store.overlay(id) {
-            Some(overlay) => overlay
-                .layers()
-                .iter()
-                .any(|layer| is_at_root(layer.directory, root)),
+            Some(overlay) => has_lower_at(overlay, root),
             None => false,
         }
     }
-}
-
-// Whether an inode of a plain filesystem is this root directory.
-fn is_at_root(directory: InodeRef, root: NodeRef) -> bool
-    ensures { result ≡ (nat_eq (filesystem_number root.filesystem) (counted directory.filesystem.count)
-        && nat_eq (number_of root) (inode_of directory)) }
-{
-    root.filesystem == directory.filesystem && root.is_same(directory.node_ref())
-}
-
-// Whether an inode is in this filesystem.
-fn is_in(inode: InodeRef, filesystem: FilesystemId) -> bool
-    ensures { result ≡ nat_eq (filesystem_number filesystem) (counted inode.filesystem.count) }
-{
-    filesystem == inode.filesystem
 }

@@ -4,6 +4,7 @@
 
 mod events;
 mod filesystems;
+mod layers;
 mod members;
 mod places;
 mod sealing;

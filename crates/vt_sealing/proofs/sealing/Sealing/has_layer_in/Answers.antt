@@ -1,7 +1,5 @@
-use Rattle.std.proofs.Common.{ap, nat_eq, option_copied, rules, sym, ◌∙◌}
-use Rattle.vt_spec.proofs.Common.{YieldsList-from_slice, any_from_yields_List, holds_of, list_any}
+use Rattle.std.proofs.Common.{ap, option_copied, sym, ◌∙◌, ◌≡◌}
 use Rattle.vt_location.specs.Numbers.{counted}
-use Rattle.vt_overlay.specs.declared.merge.layers.LayerRef.{LayerRef}
 use Rattle.vt_sealing.specs.Seen.{has_layer_in}
 use Rattle.vt_sealing.proofs.Lists.{overlay_found}
 use Rattle.vt_sealing.proofs.sealing.Sealing.has_layer_in.Goals as goal
@@ -9,14 +7,11 @@ use Rattle.vt_sealing.proofs.sealing.Sealing.has_layer_in.Goals as goal
 pub returns-in-Some : goal.returns-in-Some
 returns-in-Some c =
     let filesystem = counted c.args.filesystem.count in
-    any_from_yields_List (λ (layer : LayerRef). nat_eq filesystem (counted layer.directory.filesystem.count)) _ _ _
-    c.any.ensures.ran (YieldsList-from_slice c.layers.result.now cc) (λ x b q k. search rules)
-    ∙ ap (list_any (λ (layer : LayerRef). nat_eq filesystem (counted layer.directory.filesystem.count)))
-    c.layers.ensures
-    ∙ ap (holds_of (has_layer_in filesystem)) (overlay_found c.args.self.now.store.now.overlays
-    c.args.id.count _ (sym (ap option_copied c.in-Some.is) ∙ c.overlay.ensures.value))
+    c.has_layer_in.ensures
+    ∙ overlay_found (has_layer_in filesystem) c.args.self.now.store.now.overlays c.args.id.count _
+    (sym (ap option_copied c.in-Some.is) ∙ c.overlay.ensures.value)
 
 pub returns-in-None : goal.returns-in-None
-returns-in-None c = ap (holds_of (has_layer_in (counted c.args.filesystem.count)))
-    (overlay_found c.args.self.now.store.now.overlays
-    c.args.id.count _ (sym (ap option_copied c.in-None.is) ∙ c.overlay.ensures.value))
+returns-in-None c = overlay_found (has_layer_in (counted c.args.filesystem.count))
+    c.args.self.now.store.now.overlays c.args.id.count _
+    (sym (ap option_copied c.in-None.is) ∙ c.overlay.ensures.value)

@@ -1,10 +1,9 @@
-use Rattle.std.proofs.Common.{Bool, nat_eq, not, rules, ◌&&◌, ◌∙◌, ℕ}
+use Rattle.std.proofs.Common.{Bool, nat_eq, not, rules, ◌&&◌, ◌∙◌}
 use Rattle.vt_spec.proofs.Common.{YieldsList-from_slice, any_from_yields_List, holds_of}
 use Rattle.vt_spec.specs.Machine.Sealed.{no_outsider_on}
 use Rattle.vt_location.specs.declared.numbers.FilesystemId.{FilesystemId}
 use Rattle.vt_location.specs.Numbers.{counted}
-use Rattle.vt_overlay.specs.MergedTree.{OverlayValue}
-use Rattle.vt_store.specs.OverlaysValue.{overlay_of}
+use Rattle.vt_store.specs.OverlaysValue.{OverlayEntry, entry_kept}
 use Rattle.vt_sealing.specs.Seen.{has_layer_in, world_seen}
 use Rattle.vt_sealing.proofs.sealing.Sealing.is_under_others.Goals as goal
 
@@ -12,9 +11,10 @@ pub returns : goal.returns
 returns c =
     let names = c.args.self.now.names.now in
     let world = world_seen c.args.self.now in
-    let test : ℕ → OverlayValue → Bool = λ count overlay. has_layer_in (counted c.args.filesystem.count) overlay
-    && not (no_outsider_on nat_eq world names (counted count)) in
+    let test : OverlayEntry → Bool = λ entry.
+    has_layer_in (counted c.args.filesystem.count) entry.overlay entry.above
+    && not (no_outsider_on nat_eq world names (counted entry.count)) in
     any_from_yields_List (λ (id : FilesystemId).
-    holds_of (test id.count) (overlay_of c.args.self.now.store.now.overlays id.count)) _ _ _
+    holds_of test (entry_kept c.args.self.now.store.now.overlays id.count)) _ _ _
     c.any.ensures.ran (YieldsList-from_slice c.overlays.result.now cc) (λ x b q k. search rules)
-    ∙ c.overlays.ensures test
+    ∙ c.overlays.ensures.entries test

@@ -10,7 +10,7 @@ use Rattle.vt_sealing.proofs.sealing.Sealing.used_alone.Goals as goal
 pub returns-then-no_outsider_on : goal.returns-then-no_outsider_on
 returns-then-no_outsider_on c =
     let filesystem = counted c.args.filesystem.count in
-    let others = list_any (λ (entry : OverlayEntry). has_layer_in filesystem entry.overlay
+    let others = list_any (λ (entry : OverlayEntry). has_layer_in filesystem entry.overlay entry.above
     && not (no_outsider_on nat_eq (world_seen c.args.self.now) c.args.self.now.names.now (counted entry.count)))
     c.args.self.now.store.now.overlays in
     ap not c.is_under_others.ensures
