@@ -137,7 +137,7 @@ module _ {C : Type 0} (seen : C → World ℕ) where
 -- Turns of the definitions
 
 -- the numbers that a turn is handed are not in use
-unused : (may_fail : Bool) (world : World ℕ) (given : Option Allotment) → IsHanded may_fail world given
+pub unused : (may_fail : Bool) (world : World ℕ) (given : Option Allotment) → IsHanded may_fail world given
     → (fresh : Fresh ℕ) → supply given ≡ Some fresh → Serves nat_eq world fresh
 unused may_fail world None handed fresh e = absurd cc
 unused may_fail world (Some allotment) handed fresh e =
@@ -148,7 +148,8 @@ module _ {C : Type 0} (seen : C → World ℕ) where
   pub nothing_played : (old : SchedCode C) → IsPlayedBy seen old [] [] old
   nothing_played old = record { turns = []; whose = refl; played = plays_begin (sched_meant seen old) }
 
-  played_on : (schedule : List Who) (replies : List Reply) (old now : SchedCode C)
+  -- one turn more
+  pub played_on : (schedule : List Who) (replies : List Reply) (old now : SchedCode C)
       → IsPlayedBy seen old schedule replies now → IsReady (seen now.state.world) → (who : Who) (reply : Option Reply)
       (next : SchedCode C) → TurnsAs seen now who reply next
       → IsPlayedBy seen old (schedule ++ (who ∷ [])) (replies ++ option_to_list reply) next

@@ -13,7 +13,7 @@ use Rattle.vt_laws_turns.specs.Commits.{is_run}
 use Rattle.vt_laws_turns.specs.Dated.{SameDated}
 use Rattle.vt_request.specs.declared.answer.Answer.{Answer}
 use Rattle.vt_request.specs.Answers.{result_of}
-use Rattle.vt_answers.specs.Ends.{Directs}
+use Rattle.vt_answers.specs.Ends.{Directs, MayBeRefusedMemory}
 use Rattle.vt_turns.specs.Ends.{EndsDated, IsReady}
 use Rattle.vt_turns.specs.Going.{left_under_way, walked_in}
 use Rattle.vt_turns.specs.SchedValue.{sched_at, under_way_meant}
@@ -134,7 +134,8 @@ module _ {C : Type 0} (seen : C → World ℕ) (old : State C) (ready : IsReady 
         by_result e left (Err deny) ends = by_cause ends.outcome.0
           where
             by_cause : ((policy nat_eq ends.allotment.new (seen old.world) name call).answer ≡ Err deny)
-                ⊎ (deny ≡ denial S5) → Ends (Some (Err deny))
+                ⊎ ((deny ≡ denial S5) × MayBeRefusedMemory call
+                (policy nat_eq ends.allotment.new (seen old.world) name call).answer) → Ends (Some (Err deny))
             by_cause (inl refused) = record {
               given = Some ends.allotment;
               handed = ends.serves;
@@ -144,7 +145,7 @@ module _ {C : Type 0} (seen : C → World ℕ) (old : State C) (ready : IsReady 
                   (still new.world ends.outcome.1));
               ready = ends.ready;
             }
-            by_cause (inr memory) = is_refused_memory ends.outcome.1 left deny memory
+            by_cause (inr memory) = is_refused_memory ends.outcome.1 left deny memory.0
 
         by : (progress : Option (Progress ℕ)) → next ≡ progress → is_some progress ≡ false
             → under_way_meant new ≡ left_under_way name progress (under_way_meant old) → (result : Result Answer Deny)

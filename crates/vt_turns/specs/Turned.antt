@@ -1,7 +1,10 @@
 -- The turns of code, as the definitions have them.
-use Rattle.std.specs.Prelude.{Bool, List, None, Option, Result, Some, [], if◌then◌else◌, is_some, map, nat_eq, option_map, option_to_list, true, ℕ, ◌++◌, ◌∷◌, ◌≡◌}
+use Rattle.std.specs.Prelude.{Bool, List, None, Option, Result, Some, [], if◌then◌else◌, is_some, map, nat_eq, option_map, option_to_list, true, ℕ, ◌++◌, ◌∷◌, ◌≡◌, ◌≤◌}
 use Rattle.vt_spec.specs.declared.errors.Deny.{Deny}
+use Rattle.vt_spec.specs.Language.Calls.{TaskName}
+use Rattle.vt_spec.specs.Language.Limits.{most_restarts}
 use Rattle.vt_spec.specs.Language.Script.{Who}
+use Rattle.vt_spec.specs.Language.Script.Who.{Someone}
 use Rattle.vt_spec.specs.Lists.{Fresh, first_of_list, holds_of}
 use Rattle.vt_spec.specs.Machine.Turns.{Queue, Reply, Sched as SchedMeant, Turned, queue_of, shortened, turn}
 use Rattle.vt_spec.specs.Machine.World.{World}
@@ -10,6 +13,7 @@ use Rattle.vt_laws_trees.specs.Runs.Handed.{may_be_given}
 use Rattle.vt_laws_trees.specs.Runs.Runs.{ServesInHand}
 use Rattle.vt_laws_turns.specs.Commits.{Turn, is_run}
 use Rattle.vt_laws_turns.specs.Dated.{SameDated}
+use Rattle.vt_laws_turns.specs.Restarts.{IsSched, restarts_in}
 use Rattle.vt_laws_turns.specs.SameStates.{AreWholeCalls, IsPlayed}
 use Rattle.vt_request.specs.declared.answer.Answer.{Answer}
 use Rattle.vt_request.specs.Answers.{result_of}
@@ -97,3 +101,12 @@ module _ {C : Type 0} (seen : C → World ℕ) where
     pub turns : List Turn
     pub whose : map (λ (given : Turn). given.0) turns ≡ schedule
     pub whole : AreWholeCalls (sched_meant seen old) turns replies (sched_meant seen new)
+
+  -- Of such turns at most three find a call of a task overtaken, while the task's queue is as it was: so no call restarts
+  -- more often before it is answered. The conditions of a scheduler's state are kept.
+  pub record RestartsFew (old : Sched C) (schedule : List Who) (replies : List Reply) (new : Sched C) : Type 0 where
+    pub by : IsPlayedBy old schedule replies new
+    pub at_most_three : (name : TaskName)
+        → queue_of (queues_meant new.queues) (Someone name) ≡ queue_of (queues_meant old.queues) (Someone name)
+        → restarts_in name (sched_meant seen old) by.turns ≤ most_restarts
+    pub conditions : IsSched (sched_meant seen new)

@@ -5,10 +5,11 @@ ghost use Rattle.vt_spec.specs.Errors.{denial};
 ghost use Rattle.vt_spec.specs.Language.Script.Who.{Nobody, Someone};
 ghost use Rattle.vt_spec.specs.Lists.{first_of_list};
 ghost use Rattle.vt_spec.specs.Machine.Turns.{queue_of};
+ghost use Rattle.vt_laws_turns.specs.Restarts.{IsSched};
 ghost use Rattle.vt_queues.specs.QueuesValue.{who_meant};
 ghost use Rattle.vt_turns.specs.Ends.{IsReady};
 ghost use Rattle.vt_turns.specs.SchedValue.{begins, reply_meant, sched_meant};
-ghost use Rattle.vt_turns.specs.Turned.{AreRunWhole, PlaysAs, TurnsAndKeeps, TurnsAs};
+ghost use Rattle.vt_turns.specs.Turned.{AreRunWhole, PlaysAs, RestartsFew, TurnsAndKeeps, TurnsAs};
 
 use crate::state::State;
 use crate::world::TakesTurns;
@@ -33,7 +34,8 @@ pub struct Sched<C> {
 impl<C: TakesTurns> Sched<C> {
     /// Queues before their first turn in a world. It does not allocate.
     pub fn new(world: C, queues: Queues) -> Self
-        ensures { sched_meant C.world result ≡ begins (C.world world) queues }
+        ensures state { sched_meant C.world result ≡ begins (C.world world) queues }
+        ensures conditions { IsSched (sched_meant C.world result) }
     {
         let under_way = Vec::new(world.alloc());
         Sched {
@@ -82,8 +84,8 @@ impl<C: TakesTurns> Sched<C> {
         self.take_turn(&Who::Nobody)
     }
 
-    // One turn, whose reply is kept.
-    fn take_and_keep(&mut self, who: &Who, replies: &mut Vec<Reply>)
+    /// One turn as `take_turn`, whose reply, if it has one, is put behind others, for which there is room.
+    pub fn take_and_keep(&mut self, who: &Who, replies: &mut Vec<Reply>)
         requires { vec_len replies.old < vec_capacity replies.old }
         ensures turns { IsReady (C.world self.old.state.world)
             → TurnsAndKeeps C.world self.old (who_meant who.now) replies.old.items replies.new.items self.new }
@@ -105,6 +107,9 @@ impl<C: TakesTurns> Sched<C> {
             (map reply_meant replies.items) self.new) }
         ensures whole { IsReady (C.world self.old.state.world)
             → IfOk result (λ replies. AreRunWhole C.world self.old (map who_meant schedule.now)
+            (map reply_meant replies.items) self.new) }
+        ensures restarts { IsReady (C.world self.old.state.world) → IsSched (sched_meant C.world self.old)
+            → IfOk result (λ replies. RestartsFew C.world self.old (map who_meant schedule.now)
             (map reply_meant replies.items) self.new) }
         ensures err { IfErr result (λ deny. deny ≡ denial S5) }
         ensures unchanged { OnErr result (self.new ≡ self.old) }

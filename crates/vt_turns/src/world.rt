@@ -6,6 +6,7 @@ ghost use Rattle.vt_spec.specs.Machine.Turns.{filesystem_change_of};
 ghost use Rattle.vt_spec.specs.Machine.World.{World};
 ghost use Rattle.vt_location.specs.Numbers.{filesystem_number};
 ghost use Rattle.vt_request.specs.Requests.{call_of, directive_of};
+ghost use Rattle.vt_answers.specs.Counters.{Counters, CountsFew, opening_counters};
 ghost use Rattle.vt_answers.specs.Ends.{Directs};
 ghost use Rattle.vt_answers.specs.Numbers.{IsOpened};
 ghost use Rattle.vt_turns.specs.Ends.{EndsDated, IsReady};
@@ -23,12 +24,16 @@ pub trait TakesTurns {
     // the world that the definitions see, with all change numbers
     ghost world: { Self → World ℕ };
 
+    // how many numbers were given out, and tasks born
+    ghost counters: { Self → Counters };
+
     /// The world before the first call.
     ///
     /// S5 (ENOMEM): an allocation failed.
     fn opening(alloc: Global) -> Result<Self, Deny>
         ensures opened { IfOk result (λ opened. IsOpened (world opened)) }
         ensures ready { IfOk result (λ opened. IsReady (world opened)) }
+        ensures counts { IfOk result (λ opened. counters opened ≡ opening_counters) }
         ensures memory { IfErr result (λ deny. deny ≡ denial S5) };
 
     /// What allocates for the world.
@@ -39,7 +44,8 @@ pub trait TakesTurns {
     /// S2 (ESRCH): there is no such task. S5 (ENOMEM): an allocation failed, or a count of uses is full. The other
     /// rules are those of the call, in its order.
     fn call(&mut self, name: &TaskName, call: Call<'_>) -> Result<Answer, Deny>
-        ensures { EndsDated world self.old name.now (call_of call.entry) result self.new };
+        ensures ends { EndsDated world self.old name.now (call_of call.entry) result self.new }
+        ensures counts { CountsFew (counters self.old) (counters self.new) };
 
     /// What a directive tells. It is nobody's call, and changes nothing.
     ///

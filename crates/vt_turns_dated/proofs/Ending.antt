@@ -1,6 +1,6 @@
 -- A call ends as turns ask of it.
-use Rattle.std.proofs.Common.{◌≡◌, ◌⊎◌, inl, inr, nat_eq, Result, Ok, Err}
-use Rattle.vt_spec.proofs.Common.{Call, IsWorld, TaskName, denial}
+use Rattle.std.proofs.Common.{nat_eq, Result, Ok, Err}
+use Rattle.vt_spec.proofs.Common.{Call, IsWorld, TaskName}
 use Rattle.vt_spec.specs.declared.errors.Deny.{Deny}
 use Rattle.vt_request.specs.declared.answer.Answer.{Answer}
 use Rattle.vt_changes.specs.DatedValue.{dated_world}
@@ -16,15 +16,13 @@ turn_ends old new name call (Ok answer) it is = record {
   allotment = it.allotment;
   serves = it.serves;
   outcome = it.outcome;
+  memory = it.memory;
   ready = (it.numbers, is);
 }
 turn_ends old new name call (Err deny) it is = record {
   allotment = it.allotment;
   serves = it.serves;
-  outcome = (weaker it.outcome.0, λ i. record { dated = it.outcome.1 i });
+  outcome = (it.outcome.0, λ i. record { dated = it.outcome.1 i });
+  memory = it.memory;
   ready = (it.numbers, is);
 }
-  where
-    weaker : {A B C : Type 0} → (A ⊎ (B × C)) → A ⊎ B
-    weaker (inl a) = inl a
-    weaker (inr (b, c)) = inr b

@@ -14,9 +14,11 @@ pub struct TurnKernel {
 }
 
 impl TakesTurns for TurnKernel {
-    ghost use Rattle.vt_turns_dated.specs.Seen.{turn_world};
+    ghost use Rattle.vt_turns_dated.specs.Seen.{turn_counters, turn_world};
 
     ghost world = { turn_world };
+
+    ghost counters = { turn_counters };
 
     fn opening(alloc: Global) -> Result<TurnKernel, Deny> {
         let dated = Dated::opening(alloc)?;

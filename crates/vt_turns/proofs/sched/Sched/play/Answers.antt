@@ -4,6 +4,7 @@ use Rattle.vt_queues.specs.QueuesValue.{who_meant}
 use Rattle.vt_queues.specs.declared.item.Who.{Who}
 use Rattle.vt_turns.specs.SchedValue.{reply_meant}
 use Rattle.vt_turns.specs.Turned.{IsPlayedBy, PlaysAs}
+use Rattle.vt_turns.proofs.Restarts.{restarts_few}
 use Rattle.vt_turns.proofs.SchedTurns.{nothing_played, played_next, plays_next, run_whole_so}
 use Rattle.vt_turns.proofs.sched.Sched.play.Goals as goal
 
@@ -45,3 +46,10 @@ loop-who-init g c =
           (sym none) (nothing_played g.C.TakesTurns.world c.args.self.now);
       ready = λ ready. ready;
     }
+
+pub returns-clause-restarts : goal.returns-clause-restarts
+returns-clause-restarts g c = λ ready conditions. restarts_few g.C.TakesTurns.world (map who_meant c.args.schedule.now)
+    (map reply_meant c.loop-who.replies.items) c.args.self.now c.loop-who.self conditions
+    (subst (λ (s : List Who). IsPlayedBy g.C.TakesTurns.world c.args.self.now (map who_meant s)
+    (map reply_meant c.loop-who.replies.items) c.loop-who.self)
+    (take_all c.loop-who.who-index c.args.schedule.now (omega arith)) (c.loop-who.invariant.played ready))

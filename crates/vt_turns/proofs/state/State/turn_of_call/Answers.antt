@@ -8,7 +8,7 @@ returns-in-Ok-true g c = λ some. goes_on_later g.C.TakesTurns.world c.args.self
 
 pub returns-in-Ok-false : goal.returns-in-Ok-false
 returns-in-Ok-false g c = λ some. is_run_whole g.C.TakesTurns.world c.args.self.now some c.args.name.now _ _
-    c.walk.new.self.world c.walk.ensures.world c.call.result c.call.ensures
+    c.walk.new.self.world c.walk.ensures.world c.call.result c.call.ensures.ends
     (sym c.in-Ok-false.ensures.goes_on ∙ c.in-Ok-false.field-0-test) c.in-Ok-false.ensures.under_way
 
 pub returns-in-Err : goal.returns-in-Err
