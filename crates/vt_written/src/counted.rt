@@ -31,6 +31,13 @@ impl<W> Counted<W> {
         }
     }
 
+    /// The writer, to which all was handed on.
+    pub fn into_output(self) -> W
+        ensures { result ≡ self.output }
+    {
+        self.output
+    }
+
     // Keeps the next bytes of a line, as far as there is room.
     fn keep(&mut self, bytes: &[u8])
         ensures { self.new.output ≡ self.old.output }

@@ -1,5 +1,6 @@
 //! Answers that are handed on as JSON, an object for each line that is answered.
-ghost use Rattle.std.specs.Prelude.{◌≡◌};
+ghost use Rattle.std.specs.Prelude.{◌++◌, ◌≡◌, ◌⊎◌, [], OnOk};
+ghost use Rattle.vt_written.specs.Objects.{PushesObject};
 
 use crate::denial::{is_refused, split_word};
 use crate::text::Text;
@@ -48,7 +49,15 @@ impl<W: Drop> Objects<W> {
     }
 
     // Goes on by a line, with its newline.
-    fn end_line(&mut self) -> Result<(), AllocError> {
+    fn end_line(&mut self) -> Result<(), AllocError>
+        ensures output { self.new.output ≡ self.old.output }
+        ensures line { OnOk result (self.new.line.items ≡ []) }
+
+        // The line goes on with the answer before it, or begins one, and then that before it is written.
+        ensures answer { OnOk result (
+            ((self.new.answer.items ≡ self.old.answer.items ++ self.old.line.items) × (self.new.text ≡ self.old.text))
+            ⊎ ((self.new.answer.items ≡ self.old.line.items) × PushesObject self.old.text self.new.text)) }
+    {
         let (number, _) = split_word(self.line.as_slice());
         let (answered, _) = split_word(self.answer.as_slice());
         if number != answered && !self.answer.is_empty() {
@@ -89,7 +98,11 @@ impl<W: Write + Drop> Objects<W> {
     }
 
     // Tells the last answer.
-    fn tell_last(&mut self) {
+    fn tell_last(&mut self)
+        ensures output { self.new.output ≡ self.old.output }
+        ensures answer { self.new.answer.items ≡ [] }
+        ensures text { (self.old.answer.items ≡ []) ⊎ PushesObject self.old.text self.new.text }
+    {
         if !self.answer.is_empty() {
             self.text.push_answer(self.answer.as_slice());
             self.answer.clear();
