@@ -7,4 +7,5 @@ pub mod PrintLemmas
 pub mod RequestLemmas
 pub mod Splits
 pub mod TokenLemmas
+pub mod WhoLemmas
 pub mod WordLemmas

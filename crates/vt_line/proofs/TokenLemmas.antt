@@ -170,6 +170,27 @@ few_texts-many line many =
 pub few_texts-wrong : (line : List ℕ) → each_of token_text (raw_tokens line) ≡ None → few_texts line ≡ None
 few_texts-wrong line wrong = cond-None (leb (length (raw_tokens line)) 66) (each_of token_text (raw_tokens line)) wrong
 
+-- a token that stands alone: its one text, and that it is as long as its line at most
+pub few_texts-token : (token : List ℕ) → raw_tokens token ≡ token ∷ []
+    → few_texts token ≡ with_first (token_text token) (Some [])
+few_texts-token token alone = few_texts-few token (omega (arith, ap length alone)) ∙ ap (each_of token_text) alone
+
+pub token-length : (line token : List ℕ) (rest : List (List ℕ)) → raw_tokens line ≡ token ∷ rest
+    → length token ≤ length line
+token-length line token rest first =
+    let all : sum_by length (raw_tokens line) ≡ length token + sum_by length rest = ap (sum_by length) first
+    ∙ sum_by-cons length token rest in
+    omega (arith, all, tokens-length line)
+
+pub one_text : (text : Option (List ℕ)) (texts : List (List ℕ)) → Some texts ≡ with_first text (Some [])
+    → (bytes : List ℕ) × (text ≡ Some bytes) × (texts ≡ bytes ∷ [])
+one_text None texts e = cc
+one_text (Some bytes) texts e = (bytes, refl, cc)
+
+pub no_text : (text : Option (List ℕ)) → None ≡ with_first text (Some []) → text ≡ None
+no_text None e = refl
+no_text (Some bytes) e = cc
+
 -- the sum of sizes
 pub sum-cons : (size : ℕ) (sizes : List ℕ) → sum (size ∷ sizes) ≡ size + sum sizes
 sum-cons size sizes = sum_by-cons (λ size. size) size sizes

@@ -3,6 +3,7 @@ use Rattle.std.specs.Prelude.{List, None, Option, Some, [], drop, if◌then◌el
 use denote.Ref.{Bor}
 use Rattle.vt_spec.specs.Language.Script as spec
 use Rattle.vt_spec.specs.Language.Script.{each_of, raw_tokens, token_text}
+use Rattle.vt_spec.specs.Lists.{first_of_list, then_some}
 use Rattle.vt_line.specs.declared.token.Reading.{Reading}
 use Rattle.vt_line.specs.declared.token.Reading.TheVariants.{Between, AfterBackslash, AfterX, AfterHigh, Failed}
 use Rattle.vt_line.specs.declared.token.TheConstants.{MOST_TEXTS}
@@ -18,6 +19,10 @@ reading_of Failed = spec.Reading.Failed
 -- the texts of a line, if each token spells one and they are not too many for any call
 abbrev pub few_texts : List ℕ → Option (List (List ℕ))
 few_texts line = if nat_le (length (raw_tokens line)) MOST_TEXTS then each_of token_text (raw_tokens line) else None
+
+-- the text of a line's first token, if it has one that spells a text
+abbrev pub first_text : List ℕ → Option (List ℕ)
+first_text line = then_some (first_of_list (raw_tokens line)) token_text
 
 -- texts that stand behind one another, by their lengths
 abbrev pub cut : List ℕ → List ℕ → List (List ℕ)

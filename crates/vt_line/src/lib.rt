@@ -14,4 +14,5 @@ pub mod print;
 mod refusal;
 mod token;
 pub mod version;
+pub mod who;
 mod words;

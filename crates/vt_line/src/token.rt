@@ -1,5 +1,5 @@
 //! The tokens of a line, and the texts that they spell.
-ghost use Rattle.std.specs.Prelude.{◌≡◌, ◌≢◌, ◌+◌, ◌≤◌, ◌<◌, ◌||◌, ◌==◌, ◌++◌, ◌∷◌, [], ℕ, Some, None, length, option_map, slice_index, cond, sum, true, MatchOption};
+ghost use Rattle.std.specs.Prelude.{◌≡◌, ◌≢◌, ◌+◌, ◌≤◌, ◌<◌, ◌||◌, ◌==◌, ◌++◌, ◌∷◌, [], ℕ, Some, None, length, option_map, slice_index, cond, sum, true, IfSome, MatchOption};
 ghost use Rattle.std.specs.List.{list_all};
 ghost use Rattle.vt_spec.specs.Language.Script.{is_silent, is_plain, raw_tokens, token_text, each_of, next_reading, completed};
 ghost use Rattle.vt_spec.specs.Lists.{is_empty_list};
@@ -147,8 +147,9 @@ fn first_space_of_long(line: &[u8]) -> usize
 
 /// The first token of a line, and what follows it.
 pub fn split_first_token(line: &[u8]) -> Option<(&[u8], &[u8])>
-    ensures { MatchOption result (raw_tokens line.now ≡ [])
+    ensures parts { MatchOption result (raw_tokens line.now ≡ [])
         (λ parts. raw_tokens line.now ≡ parts.0.now ∷ raw_tokens parts.1.now) }
+    ensures token { IfSome result (λ parts. raw_tokens parts.0.now ≡ parts.0.now ∷ []) }
 {
     let start = line.iter().position(|byte| *byte != b' ')?;
     let line = &line[start..];

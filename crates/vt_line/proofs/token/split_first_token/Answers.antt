@@ -1,6 +1,7 @@
-use Rattle.std.proofs.Common.{◌≡◌, ◌≢◌, ◌<◌, ◌≤◌, ℕ, [], length, get_or, take, drop, sym, ap, ◌∙◌, ⊎_elim, arith, rules, add-zero, length-drop, get_or-drop}
+use Rattle.std.proofs.Common.{◌≡◌, ◌≢◌, ◌<◌, ◌≤◌, ℕ, [], All, length, get_or, take, drop, subst, sym, ap, ◌∙◌, ⊎_elim, arith, rules, add-zero, length-drop, length-take, get_or-drop, get_or-take}
 use Rattle.vt_spec.proofs.Common.{cases_lt, raw_tokens, take_rest}
-use Rattle.vt_text.proofs.PathWords.{words_between_none, words_between-drop, words_between_first}
+use Rattle.std.proofs.lemmas.List.Elements.{All-from_get_or}
+use Rattle.vt_text.proofs.PathWords.{words_between_none, words_between_one, words_between-drop, words_between_first}
 use Rattle.vt_line.proofs.token.split_first_token.Goals as goal
 
 pub returns-in_err-start : goal.returns-in_err-start
@@ -31,4 +32,12 @@ returns c =
     let cut = words_between_first 32 (drop start xs) end some within before space in
     let front : c.split_at.result.0.now ≡ take end (drop start xs) = rw rest at c.split_at.ensures.front in
     let back : c.split_at.result.1.now ≡ drop end (drop start xs) = rw rest at c.split_at.ensures.back in
-    rw (front, back) (sym same ∙ cut)
+    let word : All (λ byte. byte ≢ 32) (take end (drop start xs)) =
+    All-from_get_or (λ byte. byte ≢ 32) (take end (drop start xs)) 0
+    (λ k inside. let below : k < end = omega (arith, length-take end (drop start xs)) in
+    subst (λ byte. byte ≢ 32) (sym (get_or-take end (drop start xs) k 0 below)) (before k below)) in
+    let long : 0 < length (take end (drop start xs)) = omega (arith, length-take end (drop start xs)) in
+    record {
+      parts = rw (front, back) (sym same ∙ cut);
+      token = rw front (words_between_one 32 (take end (drop start xs)) long word);
+    }
