@@ -1,5 +1,4 @@
 mod Calls
-mod Climbing
 mod Forked
 mod Judged
 mod Layered

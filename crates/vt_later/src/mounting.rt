@@ -3,11 +3,8 @@ ghost use Rattle.std.specs.Prelude.{◌≡◌, nat_eq, Bool};
 ghost use Rattle.vt_spec.specs.Language.Calls.{MountFlags as FlagsMeant, TypeWord as WordMeant};
 ghost use Rattle.vt_spec.specs.Language.Calls.Call.{Bind, Lazy, MountOverlay, MountPlain, MoveMount, PivotRoot, Remount, SetType, Umount};
 ghost use Rattle.vt_spec.specs.Machine.Judging.{judging};
-ghost use Rattle.vt_spec.specs.Machine.Mounts.{is_shared};
-ghost use Rattle.vt_spec.specs.Machine.Rules.Mounting.{has_shared_parent};
 ghost use Rattle.vt_cred.specs.MountFlags.{flags_of};
 ghost use Rattle.vt_location.specs.Locations.{location_of};
-ghost use Rattle.vt_location.specs.Numbers.{mount_number};
 ghost use Rattle.vt_request.specs.Requests.{options_named};
 ghost use Rattle.vt_tasks.specs.TaskValue.{task_of};
 ghost use Rattle.vt_later.specs.Past.{behind_needs, refusal_past, RefusesAs};
@@ -17,10 +14,11 @@ use crate::pivoting::pivot_rows;
 use crate::walks::{Aim, led_to};
 use vt_cred::MountFlags;
 use vt_layers::{LookAtLayers, lowers_named};
-use vt_location::{Location, Mount, MountId, Propagation};
 use vt_looks::{Look, LookAtMounts};
 use vt_permits::{Attachment, ToBind};
-use vt_rules::{is_attached_somewhere, is_elsewhere, is_no_root, is_unbindable};
+use vt_rules::{
+    has_shared_parent, is_attached_somewhere, is_elsewhere, is_no_root, is_shared, is_unbindable,
+};
 use vt_spec::errors::{Deny, Rule};
 use vt_tasks::Task;
 
@@ -104,31 +102,6 @@ pub fn bind<L: LookAtMounts>(
         (overfull, Rule::M9),
     ];
     first(passed, &rows)
-}
-
-// Whether a mount is a member of a peer group.
-pub(crate) fn is_shared<L: Look>(world: &L, id: MountId) -> bool
-    ensures { result ≡ is_shared ((L.looks world.now).mount (mount_number id)).propagation }
-{
-    match world.mount(id) {
-        Some(mount) => matches!(mount.propagation, Propagation::Shared(_)),
-        None => false,
-    }
-}
-
-/// Whether the mount of a location stands on a shared mount.
-pub(crate) fn has_shared_parent<L: Look>(world: &L, at: Location) -> bool
-    ensures { result ≡ has_shared_parent (L.looks world.now) (location_of at) }
-{
-    match world.mount(at.mount) {
-        Some(
-            Mount {
-                mount_point: Some(place),
-                ..
-            },
-        ) => is_shared(world, place.mount),
-        _ => false,
-    }
 }
 
 /// M2, M4, M5, M6, M7, M9, M10.

@@ -3,12 +3,11 @@ ghost use Rattle.std.specs.List.{list_any};
 ghost use Rattle.std.specs.Prelude.{◌≡◌, false, nat_eq, not, option_map, option_to_list};
 ghost use Rattle.vt_spec.specs.Language.Calls.Call.{Rename, Rmdir, Unlink};
 ghost use Rattle.vt_spec.specs.Lists.{holds_of};
-ghost use Rattle.vt_spec.specs.Machine.Looks.{is_directory_at, mount_at};
+ghost use Rattle.vt_spec.specs.Machine.Looks.{is_directory_at};
 ghost use Rattle.vt_spec.specs.Machine.Rules.Conditions.{has_no_upper, is_kept, is_mount_point_in};
-ghost use Rattle.vt_spec.specs.Machine.Rules.Removing.{changes_parent, is_nonempty, is_stuck, object_there, rename_rules, rmdir_rules, same_filesystem, same_object_rules};
+ghost use Rattle.vt_spec.specs.Machine.Rules.Removing.{changes_parent, is_nonempty, is_stuck, object_there, rename_rules, rmdir_rules, same_object_rules};
 ghost use Rattle.vt_spec.specs.Machine.Walking.{is_dot, is_dot_dot};
 ghost use Rattle.vt_location.specs.Locations.{location_of};
-ghost use Rattle.vt_location.specs.Numbers.{filesystem_number};
 ghost use Rattle.vt_looks.specs.Places.{last_of};
 ghost use Rattle.vt_rules.specs.Tables.{kind_rules, layer_rules, right_rules, way_rules};
 ghost use Rattle.vt_tasks.specs.TaskValue.{task_of};
@@ -18,10 +17,10 @@ ghost use Rattle.vt_later.specs.Past.{call_past, table_past};
 
 use crate::passing::{Row, first, mounter_refusal, unless};
 use crate::walks::{NameAim, placed};
-use vt_cred::{Rights, may_delete_sticky};
-use vt_location::{FilesystemId, Location};
+use vt_cred::Rights;
+use vt_location::Location;
 use vt_looks::{Asked, LastWord, Look, Place};
-use vt_rules::{attr_at, is_directory, is_name_of, is_read_only, may};
+use vt_rules::{is_directory, is_kept, is_name_of, is_read_only, is_same_filesystem, may};
 use vt_spec::errors::{Deny, Rule};
 use vt_tasks::Task;
 
@@ -33,15 +32,6 @@ fn object_there(place: &Place<'_>) -> Location
         Some(object) => object,
         None => place.parent,
     }
-}
-
-// Whether the sticky bit of a directory keeps an object.
-fn is_kept<L: Look>(world: &L, who: &Task, directory: Location, object: Location) -> bool
-    ensures { result
-        ≡ is_kept (L.looks world.now) (task_of who.now) (location_of directory) (location_of object) }
-{
-    let above = attr_at(world, directory);
-    !may_delete_sticky(&who.cred, &above, &attr_at(world, object))
 }
 
 /// E2, F1, F2, L1, C1, C3, B1, B2.
@@ -124,21 +114,6 @@ pub fn rmdir<L: Look>(world: &L, who: &Task, passed: &[Rule], path: &[u8]) -> Re
         &words,
         directory_removed(world, who, passed, &place),
     )
-}
-
-// The filesystem that a location is in.
-fn filesystem_at<L: Look>(world: &L, at: Location) -> FilesystemId
-    ensures { filesystem_number result ≡ (mount_at (L.looks world.now) (location_of at)).filesystem }
-{
-    world.ground(at.mount).filesystem
-}
-
-// Whether two locations are in one filesystem.
-fn is_same_filesystem<L: Look>(world: &L, one: Location, other: Location) -> bool
-    ensures { result
-        ≡ same_filesystem nat_eq (L.looks world.now) (location_of one) (location_of other) }
-{
-    filesystem_at(world, one) == filesystem_at(world, other)
 }
 
 // Whether something is there, and is a directory.

@@ -24,8 +24,8 @@ pub fn is_attached_somewhere<L: Look>(world: &L, mount: MountId) -> bool
     }
 }
 
-// Whether the mount of a location stands on a shared mount.
-pub(crate) fn has_shared_parent<L: Look>(world: &L, at: Location) -> bool
+/// Whether the mount of a location stands on a shared mount.
+pub fn has_shared_parent<L: Look>(world: &L, at: Location) -> bool
     ensures { result ≡ has_shared_parent (L.looks world.now) (location_of at) }
 {
     match world.mount(at.mount) {

@@ -45,8 +45,8 @@ pub fn may_pivot<L: Look>(world: &L, who: &Task, new: Location, put: Location) -
     Ok(())
 }
 
-// Whether two mounts are the same.
-fn is_same_mount(a: MountId, b: MountId) -> bool
+/// Whether two mounts are the same.
+pub fn is_same_mount(a: MountId, b: MountId) -> bool
     ensures { result ≡ nat_eq (mount_number a) (mount_number b) }
 {
     a == b
@@ -59,8 +59,8 @@ fn mount_point_of<L: Look>(world: &L, mount: MountId) -> Option<Location>
     world.mount(mount)?.mount_point
 }
 
-// Whether a location is on a descendant of a mount.
-fn is_on_descendant<L: Look>(world: &L, mount: MountId, at: Location) -> bool
+/// Whether a location is on a descendant of a mount.
+pub fn is_on_descendant<L: Look>(world: &L, mount: MountId, at: Location) -> bool
     ensures { result ≡ is_on_descendant nat_eq (L.looks world.now) (mount_number mount) (location_of at) }
 {
     let mut here = at;
@@ -76,8 +76,8 @@ fn is_on_descendant<L: Look>(world: &L, mount: MountId, at: Location) -> bool
     false
 }
 
-// Whether a location is at or under a directory, as seen through the mounts on the way up from it.
-fn lies_under<L: Look>(world: &L, top: Location, at: Location) -> bool
+/// Whether a location is at or under a directory, as seen through the mounts on the way up from it.
+pub fn lies_under<L: Look>(world: &L, top: Location, at: Location) -> bool
     ensures { result ≡ lies_under_location nat_eq (L.looks world.now) (location_of top) (location_of at) }
 {
     let mut here = at;

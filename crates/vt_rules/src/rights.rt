@@ -75,7 +75,7 @@ pub fn attr_at<L: Look>(world: &L, at: Location) -> Attr
 }
 
 /// Whether the sticky bit of a directory forbids the caller to remove an object.
-pub(crate) fn is_kept<L: Look>(world: &L, who: &Task, directory: Location, object: Location) -> bool
+pub fn is_kept<L: Look>(world: &L, who: &Task, directory: Location, object: Location) -> bool
     ensures { result
         ≡ is_kept (L.looks world.now) (task_of who.now) (location_of directory) (location_of object) }
 {
@@ -132,7 +132,7 @@ fn filesystem_at<L: Look>(world: &L, at: Location) -> FilesystemId
 }
 
 /// Whether two locations are in one filesystem.
-pub(crate) fn is_same_filesystem<L: Look>(world: &L, one: Location, other: Location) -> bool
+pub fn is_same_filesystem<L: Look>(world: &L, one: Location, other: Location) -> bool
     ensures { result
         ≡ same_filesystem nat_eq (L.looks world.now) (location_of one) (location_of other) }
 {
@@ -151,7 +151,7 @@ pub fn is_no_root<L: Look>(world: &L, at: Location) -> bool
 }
 
 /// Whether a mount is a member of a peer group.
-pub(crate) fn is_shared<L: Look>(world: &L, id: MountId) -> bool
+pub fn is_shared<L: Look>(world: &L, id: MountId) -> bool
     ensures { result ≡ is_shared ((L.looks world.now).mount (mount_number id)).propagation }
 {
     match world.mount(id) {
