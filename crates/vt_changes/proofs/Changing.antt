@@ -3,8 +3,8 @@ use Rattle.std.proofs.Common.{◌≡◌, refl, sym, ap, subst, ◌∙◌, ℕ, n
 use Rattle.vt_spec.proofs.Common.{Access, Filesystem, Layer, Location, Overlay, World, among_from_all, and-false, changed_at, changed_if, filesystem_at, filesystems-taken_away, filesystems-without_replaced, found_among, is_copied_up, lies_only_in_lowers, mount_at, no_filesystem, numbers_of_change, of_overlay, opens_for_writing, overlay_or, shown-taken_away, shown-without_replaced, without_mounts_on, without_replaced}
 use Rattle.vt_laws_mounts.specs.Counts.BesideOverlays.{OverlaysHaveNoUpper}
 use Rattle.vt_laws_trees.proofs.layers.layers.LowersWorld.{number_of_filesystem}
-use Rattle.vt_ns.proofs.WithoutUppers.{none_has_upper}
 use Rattle.vt_spec.specs.Machine.Filesystems.{numbers_over}
+use Rattle.vt_world.specs.Held.{IsHeld}
 use Rattle.vt_world.specs.WorldValue.{WorldValue, world_of}
 
 abbrev has_upper : Filesystem ℕ → Bool
@@ -59,9 +59,9 @@ module _ (world : World ℕ) (none : OverlaysHaveNoUpper world) (at : Location �
       by (Some overlay) e = if_made _ (changed_here ∙ ap (λ o. cond (is_some o) [] (number ∷ [])) e)
 
 -- the code's world
-pub changed_in : (value : WorldValue) (at : Location ℕ) → changed_at nat_eq (world_of value) at
+pub changed_in : (value : WorldValue) → IsHeld value → (at : Location ℕ) → changed_at nat_eq (world_of value) at
     ≡ told_at (world_of value).filesystems (mount_at nat_eq (world_of value) at).filesystem
-changed_in value at = changed_here (world_of value) (none_has_upper value) at
+changed_in value held at = changed_here (world_of value) held.overlays.read_only at
 
 -- the same where mounts were detached
 without_same : (world later : World ℕ) → OverlaysHaveNoUpper world → later.filesystems ≡ world.filesystems
@@ -71,14 +71,14 @@ without_same world later none files at shown =
     changed_here later (subst (λ list. All (λ (f : Filesystem ℕ). has_upper f ≡ false) list) (sym files) none) at
     ∙ (λ i. told_at (files i) (shown i)) ∙ sym (changed_here world none at)
 
-pub changed_beside : (value : WorldValue) (directory at : Location ℕ)
+pub changed_beside : (value : WorldValue) → IsHeld value → (directory at : Location ℕ)
     → changed_at nat_eq (without_mounts_on nat_eq (world_of value) directory) at ≡ changed_at nat_eq (world_of value) at
-changed_beside value directory at = without_same (world_of value) (without_mounts_on nat_eq (world_of value) directory)
-    (none_has_upper value) (filesystems-taken_away (world_of value) _) at (shown-taken_away (world_of value) _ at)
+changed_beside value held directory at = without_same (world_of value)
+    (without_mounts_on nat_eq (world_of value) directory) held.overlays.read_only (filesystems-taken_away (world_of value) _) at (shown-taken_away (world_of value) _ at)
 
-pub changed_replacing : (value : WorldValue) (replaced : Option (Location ℕ)) (at : Location ℕ)
+pub changed_replacing : (value : WorldValue) → IsHeld value → (replaced : Option (Location ℕ)) (at : Location ℕ)
     → changed_at nat_eq (without_replaced nat_eq (world_of value) replaced) at ≡ changed_at nat_eq (world_of value) at
-changed_replacing value replaced at = without_same (world_of value)
-    (without_replaced nat_eq (world_of value) replaced) (none_has_upper value)
+changed_replacing value held replaced at = without_same (world_of value)
+    (without_replaced nat_eq (world_of value) replaced) held.overlays.read_only
     (filesystems-without_replaced (world_of value) replaced) at
     (shown-without_replaced (world_of value) replaced at)

@@ -6,6 +6,7 @@ ghost use Rattle.vt_spec.specs.Machine.World.{Task};
 ghost use Rattle.vt_location.specs.Locations.{location_of};
 ghost use Rattle.vt_location.specs.Numbers.{filesystem_number};
 ghost use Rattle.vt_permits.specs.GrantValue.{descriptor_permit, make_permit, permit_of, remove_permit, write_permit};
+ghost use Rattle.vt_world.specs.Held.{IsHeld};
 ghost use Rattle.vt_world.specs.WorldValue.{world_of};
 
 use vt_location::{FilesystemId, Location};
@@ -15,6 +16,7 @@ use vt_permits::{DescriptorGrant, Grant, MakeGrant, RemoveGrant, WriteGrant};
 
 /// The filesystem that a grant changes, if it changes one. No overlay has an upper layer, so none is changed.
 pub(crate) fn changed_by(world: &World, grant: &Grant) -> Option<FilesystemId>
+    requires { IsHeld world.now }
     ensures { (task : Task ℕ) → option_to_list (option_map filesystem_number result)
         ≡ filesystems_changed nat_eq (world_of world.now) (permit_of task grant.now) }
 {
@@ -32,6 +34,7 @@ pub(crate) fn changed_by(world: &World, grant: &Grant) -> Option<FilesystemId>
 
 // By a grant to make a name.
 fn made_by(world: &World, grant: &MakeGrant) -> Option<FilesystemId>
+    requires { IsHeld world.now }
     ensures { option_to_list (option_map filesystem_number result)
         ≡ filesystems_changed nat_eq (world_of world.now) (make_permit grant.now) }
 {
@@ -43,6 +46,7 @@ fn made_by(world: &World, grant: &MakeGrant) -> Option<FilesystemId>
 
 // By a grant to take a name away. The mounts that go with it leave the filesystem of the directory.
 fn removed_by(world: &World, grant: &RemoveGrant) -> Option<FilesystemId>
+    requires { IsHeld world.now }
     ensures { option_to_list (option_map filesystem_number result)
         ≡ filesystems_changed nat_eq (world_of world.now) (remove_permit grant.now) }
 {
@@ -55,6 +59,7 @@ fn removed_by(world: &World, grant: &RemoveGrant) -> Option<FilesystemId>
 
 // By a grant to change a file; no bytes change nothing.
 fn written_by(world: &World, grant: &WriteGrant) -> Option<FilesystemId>
+    requires { IsHeld world.now }
     ensures { option_to_list (option_map filesystem_number result)
         ≡ filesystems_changed nat_eq (world_of world.now) (write_permit grant.now) }
 {
@@ -73,6 +78,7 @@ fn written_by(world: &World, grant: &WriteGrant) -> Option<FilesystemId>
 
 // By a grant to open or close a file. Opening copies nothing up, since no overlay has an upper layer.
 fn opened_by(world: &World, grant: &DescriptorGrant) -> Option<FilesystemId>
+    requires { IsHeld world.now }
     ensures { option_to_list (option_map filesystem_number result)
         ≡ filesystems_changed nat_eq (world_of world.now) (descriptor_permit grant.now) }
 {
@@ -85,6 +91,7 @@ fn opened_by(world: &World, grant: &DescriptorGrant) -> Option<FilesystemId>
 
 // By a change at a location.
 fn changed_at(world: &World, at: Location) -> Option<FilesystemId>
+    requires { IsHeld world.now }
     ensures { option_to_list (option_map filesystem_number result)
         ≡ changed_at nat_eq (world_of world.now) (location_of at) }
 {
