@@ -7,15 +7,20 @@ use Rattle.vt_spec.specs.Inodes as Counted
 use Rattle.vt_spec.specs.Inodes.{Inodes}
 use Rattle.vt_spec.specs.Language.Changes.{Change, changed}
 use Rattle.vt_spec.specs.Lists.{any_pair, folded}
-use Rattle.vt_spec.specs.Machine.Invariants.{IsWorld}
+use Rattle.vt_spec.specs.Machine.Invariants.{IsWorld, OverlayInvariants}
 use Rattle.vt_spec.specs.Machine.Mounts.{Location}
+use Rattle.vt_spec.specs.Machine.Settled.{settled}
 use Rattle.vt_spec.specs.Machine.World.{Filesystem, World, filesystem_at, filesystem_numbered, is_overlay}
 use Rattle.vt_laws_mounts.specs.Counts.BesideOverlays.{IsChangeInUse, OverlaysHaveNoUpper}
 use Rattle.vt_laws_mounts.specs.Counts.Changing.{LinksWhatIsThere, TakesNoName, filesystem_of}
 use Rattle.vt_laws_mounts.specs.Counts.Counted.{IsCounted}
 use Rattle.vt_laws_mounts.specs.Counts.Rows as Swept
+use Rattle.vt_laws_mounts.specs.Counts.Using.{AreThere, Exchanges, exchanged}
 use Rattle.vt_laws_mounts.specs.LettingGo.InUse.{AllInUse, HasTrees}
+use Rattle.vt_laws_mounts.specs.LettingGo.OneByOne.{Inode}
 use Rattle.vt_laws_mounts.specs.LettingGo.TreeChanges.{with_tree}
+use Rattle.vt_laws_mounts.specs.LettingGo.TreesOverlays.{in_use_of}
+use Rattle.vt_laws_worlds.specs.Worlds.Kept.{IsUnderWay}
 use Rattle.vt_laws_trees.specs.Trees.{IsProper}
 use Rattle.vt_laws_upper_layers.specs.Lowered.{ArePinned, Pins, PinsInLayers, lowered}
 use Rattle.vt_laws_upper_layers.specs.Rows.{after_row}
@@ -66,3 +71,27 @@ RowsAreCounted =
     → IsCountedInUse
     (with_tree world (filesystem_of world location) (after_row (filesystem_at nat_eq world location).files row))
     location (folded (Counted.changed nat_eq) inodes row)
+
+-- Uses that come and go with tasks and mounts
+
+-- Where mounts and tasks change alone, what they exchange they exchange in the lowered worlds.
+abbrev pub ExchangesAreLowered : Type 0
+ExchangesAreLowered =
+    (pins : Pins) (world after : World ℕ) (gained lost : List Inode) (filesystem : ℕ)
+    → after.filesystems ≡ world.filesystems → Exchanges gained lost filesystem world after
+    → Exchanges gained lost filesystem (lowered pins world) (lowered pins after)
+
+-- Where uses come and go in the lowered world, in which overlays pin what has no name, before an event and after the
+-- sweep, the inodes that are left are counted there: what `uses_are_swept_beside_overlays` says.
+abbrev pub UsesAboveAreSwept : Type 0
+UsesAboveAreSwept =
+    (world after : World ℕ) (gained lost : List Inode) (filesystem : ℕ) (inodes : Inodes ℕ) → IsWorld nat_eq world
+    → IsUnderWay after → OverlayInvariants nat_eq after
+    → Exchanges gained lost filesystem (lowered (unnamed_pins world) world)
+    (in_use_of (lowered (unnamed_pins (settled nat_eq after)) after))
+    → IsCounted (lowered (unnamed_pins world) world)
+    (filesystem_numbered nat_eq (lowered (unnamed_pins world) world) filesystem) inodes
+    → AreThere filesystem inodes gained
+    → IsCounted (lowered (unnamed_pins (settled nat_eq after)) (settled nat_eq after))
+    (filesystem_numbered nat_eq (lowered (unnamed_pins (settled nat_eq after)) (settled nat_eq after)) filesystem)
+    (exchanged filesystem gained lost inodes)

@@ -1,5 +1,5 @@
-//! Plain changes of an upper layer's tree, counted in the lowered world.
-ghost use Rattle.vt_laws_upper_layers.specs.CountedAbove.{RowsAreCounted, UpperChangesAreCounted, UpperRowsAreCounted};
+//! Plain changes of an upper layer's tree, and uses that come and go, counted in the lowered world.
+ghost use Rattle.vt_laws_upper_layers.specs.CountedAbove.{ExchangesAreLowered, RowsAreCounted, UpperChangesAreCounted, UpperRowsAreCounted, UsesAboveAreSwept};
 
 /// In a world with all invariants, `changes_in_use_are_counted` holds in the lowered world, in which overlays pin what
 /// has no name, of each change that fits the counted inodes of a plain filesystem (`change`).
@@ -14,4 +14,15 @@ pub fn changes_above_are_counted()
     ensures change { UpperChangesAreCounted }
     ensures swept { UpperRowsAreCounted }
     ensures rows { RowsAreCounted }
+{}
+
+/// Where mounts and tasks change alone, the uses that they exchange are exchanged in the lowered worlds, whatever overlays
+/// pin (`exchanged`).
+///
+/// Let a world have all invariants, and its lowered world exchange uses with that of a world under way, in which overlays
+/// pin what has no name after the sweep. Then what was counted in the lowered world is counted in the one that the sweep
+/// leaves (`swept`).
+pub fn uses_above_are_counted()
+    ensures exchanged { ExchangesAreLowered }
+    ensures swept { UsesAboveAreSwept }
 {}

@@ -219,10 +219,10 @@ rows_are_counted world location inodes (change ∷ rest) is fit =
 -- In the lowered world
 module _ (pins : Pins) (world : World ℕ) (is : IsWorld nat_eq world)
     (are : All (ArePinned pins world) world.filesystems) (fit : All (PinsInLayers pins) world.filesystems) where
-  lowered_in_use : AllInUse (lowered pins world)
+  pub lowered_in_use : AllInUse (lowered pins world)
   lowered_in_use = lowered_are_in_use pins world (all_in_use world is) are fit
 
-  lowered_trees : HasTrees (lowered pins world)
+  pub lowered_trees : HasTrees (lowered pins world)
   lowered_trees = All-map (λ (f : Filesystem ℕ). IsListedTree f.files) (lowered_filesystem pins) world.filesystems
       (worlds_have_trees world is)
 

@@ -49,7 +49,7 @@ module _ (filesystem number : ℕ) (pins : Pins) where
       omega (arith, front, back, pinned, here, there)
 
 -- what is used, in parts
-parts : (pins : Pins) (world : World ℕ) (filesystem : Filesystem ℕ) (number : ℕ)
+pub parts : (pins : Pins) (world : World ℕ) (filesystem : Filesystem ℕ) (number : ℕ)
     → inode_uses (lowered pins world) (lowered_filesystem pins filesystem) number
     ≡ times (nat_eq number) (filesystem.files.tree.root ∷ (named_in filesystem.files
     ++ located_in nat_eq world filesystem.number))
