@@ -1,6 +1,6 @@
 -- What counts as under a directory tells nothing that the upper directory of its overlay does not.
 use Rattle.std.proofs.Common.{◌≡◌, ◌∙◌, ◌&&◌, ap, subst, sym, ⊎_elim, Bool, eq-eqb, eqb-true, is_some, nat_eq, not, None, Option, Some, true, true≢false, ℕ}
-use Rattle.vt_spec.proofs.Common.{Among, FileTree, Filesystem, IsWorld, Layer, Node, World, among-from_filter, and_from, and_true_left, and_true_right, any_among, any_from_among, counts_as_in_layer, filesystem_numbered, is_directory_node, is_locked, is_overlay, is_plain_layer, is_under, layers_of, lies_in_layer, lies_or_counts_under, list_any, live_layers, or_cases, or_left, overlaps_one_of, overlays, same_truth}
+use Rattle.vt_spec.proofs.Common.{Among, FileTree, Filesystem, IsWorld, Layer, Node, World, among-from_filter, and_from, and_true_left, and_true_right, any_among, any_from_among, counts_as_in_layer, filesystem_numbered, is_directory_node, is_locked, is_overlay, is_under, layers_of, lies_in_layer, lies_or_counts_under, live_layers, or_cases, or_left, overlaps_one_of, overlays, same_truth}
 use Rattle.vt_laws_trees.proofs.layers.locked.Apart.{layer_among, layer_plain, under_itself, upper_in_layers}
 use Rattle.vt_laws_trees.proofs.layers.locked.Layers.{are_trees, inode_listed}
 use Rattle.vt_laws_trees.proofs.overlays.whole.ApartThere.{counts_parts, own_number}

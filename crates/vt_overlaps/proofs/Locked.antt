@@ -1,8 +1,8 @@
 -- What lies in layers of a store is what a world with its filesystems locks.
-use Rattle.std.proofs.Common.{◌≡◌, ◌∙◌, ◌&&◌, ◌||◌, ◌++◌, ◌∷◌, [], All, ap, arith, Bool, cond, drop, eqb-true, false, filter, find, flat_map, inl, inr, is_some, List, map, nat_eq, nat_lt, None, not, Option, option_map, option_to_list, refl, slice_get, Some, subst, sym, true, true≢false, unwrap_or, ℕ}
-use Rattle.vt_spec.proofs.Common.{Among, FileTree, Filesystem, IsWorld, Layer, Overlay, World, among_from_all, among_from_list_all, and_true_left, common_steps, filesystem_numbered, holds_of, is_among, is_locked, is_overlay, is_plain_layer, is_under, layers_of, lies_in_layer, list_all, list_any, list_any-append, live_layers, no_filesystem, none_among, none_from_among, of_overlay, overlay_or}
+use Rattle.std.proofs.Common.{◌≡◌, ◌∙◌, ◌&&◌, ◌||◌, ◌++◌, ◌∷◌, [], ap, arith, Bool, cond, drop, eqb-true, false, filter, find, flat_map, inl, inr, is_some, List, map, nat_eq, nat_lt, None, not, Option, option_map, option_to_list, refl, slice_get, Some, subst, sym, true, true≢false, unwrap_or, ℕ}
+use Rattle.vt_spec.proofs.Common.{Among, Filesystem, IsWorld, Layer, Overlay, World, among_from_all, among_from_list_all, and_true_left, common_steps, filesystem_numbered, is_among, is_overlay, is_plain_layer, is_under, layers_of, lies_in_layer, list_all, list_any, list_any-append, live_layers, no_filesystem, none_among, none_from_among, of_overlay, overlay_or}
 use Rattle.vt_laws_trees.specs.Overlays.InOrder.{put_in}
-use Rattle.vt_laws_kept.specs.Kept.{kept_in, objects_kept, unnamed_in}
+use Rattle.vt_laws_kept.specs.Kept.{kept_in, objects_kept}
 use Rattle.vt_laws_kept.proofs.overlaps.Kept.{is_locked_where_kept}
 use Rattle.vt_location.proofs.AskedLemmas.{any_mapped}
 use Rattle.vt_location.proofs.NumberLemmas.{counted_test}
@@ -13,20 +13,20 @@ use Rattle.vt_overlay.specs.declared.merge.layers.LayerRef.{LayerRef}
 use Rattle.vt_overlay.specs.MergedTree.{OverlayValue, layer_seen}
 use Rattle.vt_layered.specs.LayeredTree.{layered_seen}
 use Rattle.vt_layered.specs.LayeredValue.{Above, LayeredValue, held_layers, keeps_object}
-use Rattle.vt_store.specs.Locks.{is_in_layer, keeps_in, lies_in, lies_in_overlay}
+use Rattle.vt_store.specs.Locks.{keeps_in, lies_in, lies_in_overlay}
 use Rattle.vt_store.specs.OverlaysValue.{OverlayEntry}
 use Rattle.vt_store.specs.StoreValue.{StoreValue, filesystem_in, filesystems_of, layered_in, layers_and_objects, overlay_filesystem, woven}
 use Rattle.vt_store.proofs.Woven.{among-woven, files_plain, is_overlay_in}
-use Rattle.vt_overlaps.specs.Laws.{IsOfStore, LocksAreThoseOfTheWorld, PlainFilesystemsAreLockedAlike, ReadOnlyOverlaysKeepNothing}
+use Rattle.vt_overlaps.specs.Laws.{LocksAreThoseOfTheWorld, PlainFilesystemsAreLockedAlike, ReadOnlyOverlaysKeepNothing}
 
 -- Tests of lists
 
-any_alike : {A : Type 0} (one other : A → Bool) (list : List A) → ((a : A) → Among a list → one a ≡ other a)
+pub any_alike : {A : Type 0} (one other : A → Bool) (list : List A) → ((a : A) → Among a list → one a ≡ other a)
     → list_any one list ≡ list_any other list
 any_alike one other [] same = refl
 any_alike one other (a ∷ rest) same = λ i. same a (inl refl) i || any_alike one other rest (λ b m. same b (inr m)) i
 
-any_flat : {A B : Type 0} (test : B → Bool) (f : A → List B) (list : List A)
+pub any_flat : {A B : Type 0} (test : B → Bool) (f : A → List B) (list : List A)
     → list_any test (flat_map f list) ≡ list_any (λ a. list_any test (f a)) list
 any_flat test f [] = refl
 any_flat test f (a ∷ rest) =
@@ -74,14 +74,14 @@ module _ (test : Filesystem ℕ → Bool) where
   plain_fail fails [] = refl
   plain_fail fails (entry ∷ plain) = λ i. fails entry i || plain_fail fails plain i
 
-  any_woven : ((entry : FilesystemEntry) → test (filesystem_seen entry) ≡ false) → (plain : Filesystems)
+  pub any_woven : ((entry : FilesystemEntry) → test (filesystem_seen entry) ≡ false) → (plain : Filesystems)
       (overlays : List OverlayEntry)
       → list_any test (woven plain overlays) ≡ list_any (λ entry. test (overlay_filesystem plain entry)) overlays
   any_woven fails plain [] = plain_fail fails plain
   any_woven fails plain (entry ∷ overlays) = any_put (overlay_filesystem plain entry) (woven plain overlays)
       ∙ ap (λ b. test (overlay_filesystem plain entry) || b) (any_woven fails plain overlays)
 
-  any_filtered : ((one : Filesystem ℕ) → is_overlay one ≡ false → test one ≡ false) → (all : List (Filesystem ℕ))
+  pub any_filtered : ((one : Filesystem ℕ) → is_overlay one ≡ false → test one ≡ false) → (all : List (Filesystem ℕ))
       → list_any test (filter is_overlay all) ≡ list_any test all
   any_filtered fails [] = refl
   any_filtered fails (one ∷ all) = by (is_overlay one) refl (any_filtered fails all)
@@ -102,18 +102,18 @@ no_layers test one = by one.overlay
     by (Some overlay) e = absurd (true≢false e)
 
 module _ (store : StoreValue) (world : World ℕ) (same : world.filesystems ≡ filesystems_of store) where
-  numbered_so : (count : ℕ) → filesystem_numbered nat_eq world (counted count) ≡ filesystem_in store count
+  pub numbered_so : (count : ℕ) → filesystem_numbered nat_eq world (counted count) ≡ filesystem_in store count
   numbered_so count = ap (λ (all : List (Filesystem ℕ)). unwrap_or (find (λ (one : Filesystem ℕ).
       nat_eq (counted count) one.number) all) (no_filesystem (counted count))) same
 
   -- what is no overlay is a plain filesystem of the store
-  no_overlay : (count : ℕ) (o : Option LayeredValue) → layered_in store count ≡ o
+  pub no_overlay : (count : ℕ) (o : Option LayeredValue) → layered_in store count ≡ o
       → not (is_overlay (filesystem_in store count)) ≡ true → layered_in store count ≡ None
   no_overlay count None e plain = e
   no_overlay count (Some layered) e plain =
       absurd (true≢false (sym plain ∙ ap not (sym (is_overlay_in store count) ∙ ap is_some e)))
 
-  files_so : (count : ℕ) → layered_in store count ≡ None
+  pub files_so : (count : ℕ) → layered_in store count ≡ None
       → (filesystem_numbered nat_eq world (counted count)).files ≡ files_at store.plain count
   files_so count none = ap (λ (one : Filesystem ℕ). one.files) (numbered_so count) ∙ sym (files_plain store count none)
 
@@ -128,7 +128,8 @@ module _ (store : StoreValue) (world : World ℕ) (same : world.filesystems ≡ 
 
   module _ (conditions : IsWorld nat_eq world) where
     -- a layer lies in a plain filesystem, and what lies in it lies there in the store
-    lies_so : (count number : ℕ) (layer : LayerRef) → is_plain_layer nat_eq world (layer_seen layer) ≡ true
+    pub lies_so : (count number : ℕ) (layer : LayerRef)
+        → not (is_overlay (filesystem_numbered nat_eq world (counted layer.directory.filesystem.count))) ≡ true
         → lies_in_layer nat_eq world (counted count) number (layer_seen layer) ≡ lies_in store.plain count number layer
     lies_so count number layer plain = by (nat_eq count own) refl
       where
@@ -137,7 +138,7 @@ module _ (store : StoreValue) (world : World ℕ) (same : world.filesystems ≡ 
 
         own_files : (filesystem_numbered nat_eq world (counted own)).files ≡ files_at store.plain own
         own_files = files_so own (no_overlay own (layered_in store own) refl
-            (ap (λ (one : Filesystem ℕ). not (is_overlay one)) (sym (numbered_so own)) ∙ and_true_left _ _ plain))
+            (ap (λ (one : Filesystem ℕ). not (is_overlay one)) (sym (numbered_so own)) ∙ plain))
 
         by : (b : Bool) → nat_eq count own ≡ b
             → lies_in_layer nat_eq world (counted count) number (layer_seen layer)
@@ -160,7 +161,7 @@ module _ (store : StoreValue) (world : World ℕ) (same : world.filesystems ≡ 
           (of_overlay true (λ one. list_all (is_plain_layer nat_eq world) (layers_of one))) world.filesystems
           conditions.overlays.plain_layers (overlay_filesystem store.plain entry) among
 
-      each_plain : (layer : LayerRef) → Among layer (held_layers entry.overlay entry.above)
+      pub each_plain : (layer : LayerRef) → Among layer (held_layers entry.overlay entry.above)
           → is_plain_layer nat_eq world (layer_seen layer) ≡ true
       each_plain layer n = not_not (is_plain_layer nat_eq world (layer_seen layer))
           (none_among (λ one. not (is_plain_layer nat_eq world (layer_seen one)))
@@ -178,7 +179,7 @@ module _ (store : StoreValue) (world : World ℕ) (same : world.filesystems ≡ 
           any_layers (lies_in_layer nat_eq world (counted count) number) entry.overlay entry.above
           ∙ any_alike (λ layer. lies_in_layer nat_eq world (counted count) number (layer_seen layer))
           (lies_in store.plain count number) (held_layers entry.overlay entry.above)
-          (λ layer n. lies_so count number layer (each_plain layer n))
+          (λ layer n. lies_so count number layer (and_true_left _ _ (each_plain layer n)))
 
     -- so all layers of live overlays are those of the store
     live_lies : (count number : ℕ)
@@ -205,26 +206,28 @@ plain_filesystems_are_locked_alike store world count conditions of_store none = 
   locked = λ number. locks_are_those_of_the_world store world count number conditions of_store;
 }
 
+-- a read-only overlay keeps nothing, in the store and in the world
+pub keeps_nothing : (count number : ℕ) (entry : OverlayEntry) → entry.above ≡ None → keeps_in count number entry ≡ false
+keeps_nothing count number entry none = ap (λ above. keeps_object entry.overlay above
+    (record { filesystem = record { count = count }; slot = exchanged count number })) none
+
+pub nothing_kept : (plain : Filesystems) (count number : ℕ) (entry : OverlayEntry) → entry.above ≡ None
+    → is_among nat_eq number (objects_kept (counted count) (overlay_filesystem plain entry)) ≡ false
+nothing_kept plain count number entry none = ap (λ above. is_among nat_eq number (objects_kept (counted count)
+    (record (overlay_filesystem plain entry) {
+      overlay = Some (record (layered_seen entry.overlay above) { real = (layers_and_objects plain entry).real });
+    }))) none
+
 pub read_only_overlays_keep_nothing : ReadOnlyOverlaysKeepNothing
 read_only_overlays_keep_nothing store world same lower = record {
   filesystems = same;
   kept = λ count number.
       none_from_among (keeps_in count number) store.overlays (λ entry m.
-      ap (λ above. keeps_object entry.overlay above
-      (record { filesystem = record { count = count }; slot = exchanged count number })) (none_above entry m))
+      keeps_nothing count number entry (none_above entry m))
       ∙ sym (kept_so store world same (counted count) number
       ∙ none_from_among (λ entry. is_among nat_eq number (objects_kept (counted count) (overlay_filesystem store.plain
-      entry))) store.overlays (λ entry m. nothing_kept count number entry (none_above entry m)));
+      entry))) store.overlays (λ entry m. nothing_kept store.plain count number entry (none_above entry m)));
 }
   where
     none_above : (entry : OverlayEntry) → Among entry store.overlays → entry.above ≡ None
     none_above entry m = among_from_all (λ (one : OverlayEntry). one.above ≡ None) store.overlays lower entry m
-
-    nothing_kept : (count number : ℕ) (entry : OverlayEntry) → entry.above ≡ None
-        → is_among nat_eq number (objects_kept (counted count) (overlay_filesystem store.plain entry)) ≡ false
-    nothing_kept count number entry none = ap (λ above. is_among nat_eq number (objects_kept (counted count)
-        (record (overlay_filesystem store.plain entry) {
-          overlay = Some (record (layered_seen entry.overlay above) {
-            real = (layers_and_objects store.plain entry).real;
-          });
-        }))) none

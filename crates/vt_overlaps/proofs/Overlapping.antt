@@ -1,4 +1,4 @@
--- A directory overlaps a layer just if an inode in some slot of its filesystem lies in both.
+-- Some inode of a plain filesystem passes a test just if one in some slot does.
 use Rattle.std.proofs.Common.{Bool, None, Option, Some, [], ◌∷◌, List, ap, arith, eqb-true, false, is_some, nat_eq, option_map, refl, subst, sym, true, true≢false, ℕ, ◌<◌, ◌≤◌, ◌||◌, ◌&&◌, ◌∙◌, ◌≡◌, unwrap_or, nat_lt, ltb-true, ltb-false}
 use Rattle.vt_spec.proofs.Common.{is_among, list_any, none_is_some, common_steps}
 use Rattle.vt_spec.specs.Inodes.{Inode, node_in}
@@ -8,8 +8,6 @@ use Rattle.vt_fs.proofs.Numbers.{numbers_listed}
 use Rattle.vt_location.proofs.NumberLemmas.{exchanged_back, exchanged_slot}
 use Rattle.vt_location.specs.Numbers.{exchanged, inode_number}
 use Rattle.vt_upper_overlay.proofs.NamesFound.{nodes_found}
-use Rattle.vt_store.specs.StoreValue.{StoreValue}
-use Rattle.vt_overlaps.specs.Overlaps.{is_in_both, lies_in_both, overlaps_live}
 
 pub is_some-map : {A B : Type 0} (f : A → B) (o : Option A) → is_some (option_map f o) ≡ is_some o
 is_some-map f None = refl
@@ -42,48 +40,51 @@ listed : (plain : Filesystems) (count number : ℕ)
     → is_among nat_eq number (files_at plain count).numbers ≡ is_some ((files_at plain count).tree.node number)
 listed plain count number = numbers_listed (unwrap_or (entry_of plain count) (no_entry count)) number
 
-module _ (store : StoreValue) (count top : ℕ) where
-  -- an inode that lies in both
-  pub one_in_both : (number : ℕ) → is_in_both store count top number ≡ true → overlaps_live store count top ≡ true
-  one_in_both number both = by (is_some ((files_at store.plain count).tree.node number)) refl both
+-- a test that inodes of a plain filesystem pass
+module _ (plain : Filesystems) (count : ℕ) (test : ℕ → Bool) where
+  -- one that is there passes
+  pub one_passes : (number : ℕ) → (is_some ((files_at plain count).tree.node number) && test number) ≡ true
+      → list_any test (files_at plain count).numbers ≡ true
+  one_passes number both = by (is_some ((files_at plain count).tree.node number)) refl both
     where
-      by : (there : Bool) → is_some ((files_at store.plain count).tree.node number) ≡ there
-          → (there && lies_in_both store count top number) ≡ true → overlaps_live store count top ≡ true
-      by true is lies = one_of (lies_in_both store count top) number lies (files_at store.plain count).numbers
-          (listed store.plain count number ∙ is)
-      by false is lies = absurd (true≢false (sym lies))
+      by : (there : Bool) → is_some ((files_at plain count).tree.node number) ≡ there
+          → (there && test number) ≡ true → list_any test (files_at plain count).numbers ≡ true
+      by true is passes = one_of test number passes (files_at plain count).numbers (listed plain count number ∙ is)
+      by false is passes = absurd (true≢false (sym passes))
 
-  -- of a filesystem that does not exist
-  pub none_there : option_map (λ (entry : FilesystemEntry). entry.tree) (entry_of store.plain count) ≡ None
-      → overlaps_live store count top ≡ false
-  none_there none = by (entry_of store.plain count) none
+  -- none does in a filesystem that does not exist
+  pub none_there : option_map (λ (entry : FilesystemEntry). entry.tree) (entry_of plain count) ≡ None
+      → list_any test (files_at plain count).numbers ≡ false
+  none_there none = by (entry_of plain count) none
     where
       by : (o : Option FilesystemEntry) → option_map (λ (entry : FilesystemEntry). entry.tree) o ≡ None
-          → list_any (lies_in_both store count top) (files_seen (unwrap_or o (no_entry count))).numbers ≡ false
+          → list_any test (files_seen (unwrap_or o (no_entry count))).numbers ≡ false
       by None e = refl
       by (Some entry) e = none_is_some entry.tree (sym e)
 
   module _ (tree : TreeValue)
-      (is : Some tree ≡ option_map (λ (entry : FilesystemEntry). entry.tree) (entry_of store.plain count))
+      (is : Some tree ≡ option_map (λ (entry : FilesystemEntry). entry.tree) (entry_of plain count))
       (end : ℕ) (small : end ≤ 18446744073709551616)
       (above : (id : ℕ) → end ≤ id → (inodes_of tree).inode id ≡ None)
-      (each : (k : ℕ) → k < end → is_in_both store count top (inode_number count k) ≡ false) where
-    not_here : (number : ℕ) → is_some ((files_at store.plain count).tree.node number) ≡ true
-        → lies_in_both store count top number ≡ false
+      (each : (k : ℕ) → k < end → (is_some ((files_at plain count).tree.node (inode_number count k))
+      && test (inode_number count k)) ≡ false) where
+    not_here : (number : ℕ) → is_some ((files_at plain count).tree.node number) ≡ true → test number ≡ false
     not_here number there = by (nat_lt (exchanged count number) end) refl
       where
-        by : (b : Bool) → nat_lt (exchanged count number) end ≡ b → lies_in_both store count top number ≡ false
+        by : (b : Bool) → nat_lt (exchanged count number) end ≡ b → test number ≡ false
         by true e =
             let within = ltb-true (exchanged count number) end e in
             let itself = sym (exchanged_slot count (exchanged count number) (omega (arith, within, small)))
             ∙ exchanged_back count number in
-            ap (λ b. b && lies_in_both store count top number) (sym there)
-            ∙ subst (λ n. is_in_both store count top n ≡ false) itself (each (exchanged count number) within)
+            ap (λ b. b && test number) (sym there)
+            ∙ subst (λ n. (is_some ((files_at plain count).tree.node n) && test n) ≡ false) itself
+            (each (exchanged count number) within)
         by false e = absurd (true≢false (sym there
-            ∙ ap is_some (sym (nodes_found store.plain count tree is number)
+            ∙ ap is_some (sym (nodes_found plain count tree is number)
             ∙ ap (λ (o : Option (Inode ℕ)). option_map (node_seen count) (node_in o))
             (above (exchanged count number) (ltb-false (exchanged count number) end e)))))
 
-    pub none_in_both : overlaps_live store count top ≡ false
-    none_in_both = none_of (lies_in_both store count top) (files_at store.plain count).numbers (λ number among.
-        not_here number (sym (listed store.plain count number) ∙ among))
+    -- if none in a slot passes, none does
+    pub none_passes : list_any test (files_at plain count).numbers ≡ false
+    none_passes = none_of test (files_at plain count).numbers (λ number among.
+        not_here number (sym (listed plain count number) ∙ among))

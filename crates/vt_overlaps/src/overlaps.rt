@@ -48,7 +48,7 @@ fn is_in_both(store: &Store, top: InodeRef, slot: usize) -> bool
 }
 
 // Whether the inode in a slot is a directory of its tree, lies under it, or has a name there.
-fn lies_under(plain: &Filesystems, top: InodeRef, slot: usize) -> bool
+pub(crate) fn lies_under(plain: &Filesystems, top: InodeRef, slot: usize) -> bool
     requires { ParentsAreNamed (files_at plain.now top.filesystem.count).tree }
     ensures { result ≡ is_under nat_eq (files_at plain.now top.filesystem.count) (inode_of top)
         (inode_number top.filesystem.count slot) }

@@ -3,7 +3,6 @@ use Rattle.vt_spec.proofs.Common.{is_directory_under}
 use Rattle.vt_fs.specs.FilesystemsValue.{files_at}
 use Rattle.vt_fs.specs.Laws.{ParentsAreNamed}
 use Rattle.vt_location.specs.declared.locations.NodeRef.{NodeRef}
-use Rattle.vt_location.specs.Locations.{number_of}
 use Rattle.vt_overlaps.proofs.overlaps.is_directory_under.Goals as goal
 
 pub is_under-requires : goal.is_under-requires

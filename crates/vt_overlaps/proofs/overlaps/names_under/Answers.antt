@@ -1,4 +1,4 @@
-use Rattle.std.proofs.Common.{ap, arith, nat_eq, subst, sym, true, ◌&&◌, ◌<◌, ◌≡◌, ◌∙◌}
+use Rattle.std.proofs.Common.{ap, arith, nat_eq, sym, true, ◌&&◌, ◌<◌, ◌≡◌, ◌∙◌}
 use Rattle.vt_spec.proofs.Common.{has_entry_to, is_directory_under}
 use Rattle.vt_location.proofs.NumberLemmas.{exchanged_slot}
 use Rattle.vt_location.specs.Locations.{inode_of}
