@@ -1,5 +1,5 @@
 -- A node that has its object in a lower layer: the way to the directory in which it was born, and its name there.
-use Rattle.std.proofs.Common.{◌≡◌, ◌∙◌, ◌<◌, ◌+◌, ◌∷◌, ◌++◌, [], ap, arith, refl, is_some, IsSome, List, None, option_map, Option, Some, slice_get, subst, suc, sym, true, true≢false, ⊎_elim, unwrap_or, ℕ}
+use Rattle.std.proofs.Common.{◌≡◌, ◌∙◌, ◌<◌, ◌+◌, ◌∷◌, ◌++◌, [], ap, arith, refl, is_some, IsSome, List, None, option_map, Option, Some, slice_get, subst, suc, sym, true≢false, ⊎_elim, unwrap_or, ℕ}
 use Rattle.vt_spec.proofs.Common.{IsDirectory, Node, Tree, at_path, entries_in, entries_of, led, none_is_some, same_Some, shown, slice_get_within, then_some, without_last}
 use Rattle.vt_laws_trees.proofs.layers.layers.ShownPaths.{one_path}
 use Rattle.vt_laws_trees.proofs.layers.layers.UpperLine.{has_entries}

@@ -1,6 +1,6 @@
 -- What plans make is what the definitions' changes make.
-use Rattle.std.proofs.Common.{◌≡◌, ◌∙◌, ◌∷◌, ◌++◌, [], ap, append-nil, append_assoc, arith, Bool, false, is_some, length, List, map, nat_eq, None, Option, refl, Some, subst, suc, sym, true, unwrap_or, ℕ}
-use Rattle.vt_spec.proofs.Common.{Content, FileTree, Fresh, IsDirectory, Lower, Make, Merge, Node, Real, Stack, Upper, changed, changed_node, common_steps, kind_of, map_twice, node_with_entry, same_Some, upper_object, upper_of}
+use Rattle.std.proofs.Common.{◌≡◌, ◌∙◌, ◌∷◌, ◌++◌, [], ap, append-nil, append_assoc, arith, Bool, false, is_some, length, List, map, nat_eq, refl, Some, subst, sym, true, unwrap_or, ℕ}
+use Rattle.vt_spec.proofs.Common.{Content, FileTree, Fresh, IsDirectory, Lower, Make, Merge, Node, Stack, Upper, changed, changed_node, common_steps, kind_of, map_twice, node_with_entry, upper_object}
 use Rattle.vt_spec.specs.Rights.{Credentials, is_directory}
 use Rattle.vt_spec.specs.Tree.{node_with_bytes}
 use Rattle.vt_spec.specs.Tree.Content.{Directory, Regular, Symlink, Whiteout}
@@ -13,14 +13,13 @@ use Rattle.vt_laws_worlds.specs.Merging.UpperChanges.{AreNew, IsAt, Place, copie
 use Rattle.vt_laws_worlds.specs.Merging.UpperChanges.Place.{Held, Named}
 use Rattle.vt_laws_worlds.specs.Seen.CopySteps.{ArePlanned, Copy, made_in_turn}
 use Rattle.vt_laws_upper_layers.specs.Rows.{after_row}
-use Rattle.vt_births.specs.Births.{BirthsValue}
 use Rattle.vt_copyup.specs.declared.plans.Piece.{Piece}
 use Rattle.vt_copyup.specs.declared.plans.Plan.{Plan}
 use Rattle.vt_copyup.specs.declared.plans.PlannedCopy.{PlannedCopy}
 use Rattle.vt_copyup.specs.Copied.{copied}
 use Rattle.vt_copyup.specs.Laws.{AreHanded}
 use Rattle.vt_copyup.specs.Made.{Made, last_made, made_copies}
-use Rattle.vt_copyup.specs.Planned.{IsPlanOf, names_of, stack_of}
+use Rattle.vt_copyup.specs.Planned.{IsPlanOf, stack_of}
 use Rattle.vt_copyup.specs.Plans.{AreNested, copies_of, in_turn}
 use Rattle.vt_copyup.proofs.Changed.{is_there, still_there}
 use Rattle.vt_copyup.proofs.Copies.{plans_make}
@@ -30,7 +29,7 @@ use Rattle.vt_location.specs.declared.numbers.FilesystemId.{FilesystemId}
 use Rattle.vt_location.specs.Locations.{inode_of}
 use Rattle.vt_location.specs.Numbers.{inode_number}
 use Rattle.vt_overlay.specs.declared.merge.layers.LayerRef.{LayerRef}
-use Rattle.vt_upper.specs.Changes.{IsChanged, keeps_bytes, row_of}
+use Rattle.vt_upper.specs.Changes.{keeps_bytes, row_of}
 use Rattle.vt_upper.specs.Laws.{ChangesAboveAreMade, ChangesBelowAreMade, change_at}
 use Rattle.vt_upper.specs.declared.changing.ObjectChange.{ObjectChange}
 use Rattle.vt_upper.specs.declared.changing.ObjectChange.TheVariants.{Attr, Bytes, Copied}

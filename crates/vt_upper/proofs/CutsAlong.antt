@@ -1,5 +1,5 @@
 -- Entries along a path of one tree.
-use Rattle.std.proofs.Common.{◌≡◌, ◌∙◌, None, Option, Some, ap, subst, sym, ℕ, List}
+use Rattle.std.proofs.Common.{◌≡◌, ◌∙◌, None, Some, ap, sym, ℕ, List}
 use Rattle.vt_spec.proofs.Common.{entry_at}
 use Rattle.vt_fs.specs.FilesystemsValue.{Filesystems, files_at}
 use Rattle.vt_location.specs.declared.locations.InodeRef.{InodeRef}

@@ -1,5 +1,5 @@
 -- The last copy of a directory is empty.
-use Rattle.std.proofs.Common.{◌≡◌, ◌∙◌, ◌<◌, ◌+◌, ◌∷◌, [], ap, arith, false, length, List, None, Option, refl, Some, sym, true, true≢false, ℕ}
+use Rattle.std.proofs.Common.{◌≡◌, ◌∙◌, ◌∷◌, [], false, length, List, None, Option, refl, sym, true, true≢false, ℕ}
 use Rattle.vt_spec.proofs.Common.{Node, entries_of-copied_content, is_directory_node, length-map, length-reverse}
 use Rattle.vt_births.specs.Births.{BirthsValue}
 use Rattle.vt_copyup.specs.declared.plans.Piece.{Piece}
@@ -7,7 +7,6 @@ use Rattle.vt_copyup.specs.declared.plans.Plan.{Plan}
 use Rattle.vt_copyup.specs.Made.{AreMade}
 use Rattle.vt_copyup.specs.Plans.{IsReady, copies_of, in_turn, many}
 use Rattle.vt_fs.specs.FilesystemsValue.{Filesystems, files_at}
-use Rattle.vt_laws_worlds.specs.Merging.UpperChanges.{copy_node}
 use Rattle.vt_location.specs.declared.locations.InodeRef.{InodeRef}
 use Rattle.vt_location.specs.Locations.{inode_of}
 use Rattle.vt_upper.specs.Copies.{IsLastOf}

@@ -10,9 +10,7 @@ use Rattle.vt_copyup.specs.Copied.{copied}
 use Rattle.vt_copyup.specs.Planned.{AreCopiesFrom, IsPlanOf, names_of}
 use Rattle.vt_copyup.specs.Plans.{in_turn}
 use Rattle.vt_fs.specs.FilesystemsValue.{Filesystems, files_at, node_seen}
-use Rattle.vt_location.specs.declared.locations.InodeRef.{InodeRef}
 use Rattle.vt_location.specs.declared.locations.NodeRef.{NodeRef}
-use Rattle.vt_location.specs.declared.numbers.FilesystemId.{FilesystemId}
 use Rattle.vt_location.specs.Locations.{inode_of, number_of}
 use Rattle.vt_location.specs.NodeNumbers.{IsSmall}
 use Rattle.vt_overlay.specs.Alike.{lent_at}

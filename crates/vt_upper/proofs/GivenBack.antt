@@ -1,5 +1,5 @@
 -- Promises that are given back one after the other.
-use Rattle.std.proofs.Common.{◌≡◌, ◌∙◌, ◌+◌, ◌-◌, ◌∷◌, [], ap, arith, Bool, cond, false, List, nat_eq, refl, true, ℕ}
+use Rattle.std.proofs.Common.{◌≡◌, ◌∙◌, ◌+◌, ◌-◌, ◌∷◌, [], ap, arith, Bool, cond, false, nat_eq, refl, true, ℕ}
 use Rattle.vt_fs.specs.FilesystemsValue.{Filesystems, changed_if, giving_back, with_changed}
 
 pub given_in_turn : (count first second : ℕ) (trees : Filesystems)

@@ -1,6 +1,6 @@
 -- An object without a name, once its copy is made.
-use Rattle.std.proofs.Common.{◌≡◌, ◌∙◌, ◌<◌, ap, arith, Bool, cond, is_some, nat_eq, None, Option, refl, Some, subst, sym, true, ℕ}
-use Rattle.vt_spec.proofs.Common.{Inodes, Node, nat_eq_itself, node_in}
+use Rattle.std.proofs.Common.{◌≡◌, ◌∙◌, ◌<◌, ap, arith, cond, is_some, nat_eq, None, Option, refl, Some, subst, sym, true, ℕ}
+use Rattle.vt_spec.proofs.Common.{Inodes, nat_eq_itself, node_in}
 use Rattle.vt_births.specs.Births.{BirthsValue}
 use Rattle.vt_copyup.proofs.Changed.{inodes_after}
 use Rattle.vt_fs.specs.FilesystemsValue.{FilesystemEntry, Filesystems, entry_of, files_at, inodes_at, inodes_promised, no_entry}

@@ -1,6 +1,6 @@
 -- What plans make of an object without a name is what the definitions' changes make of it.
-use Rattle.std.proofs.Common.{◌≡◌, ◌∙◌, ◌∷◌, [], ap, arith, Bool, cond, false, is_some, List, nat_eq, None, Option, refl, Some, sym, true, ℕ}
-use Rattle.vt_spec.proofs.Common.{Content, FileTree, Fresh, Inodes, Lower, Node, Stack, Tree, Upper, changed_node, common_steps, nat_eq_itself, node_in, tree_of, with_inode}
+use Rattle.std.proofs.Common.{◌≡◌, ◌∙◌, ap, Bool, cond, false, is_some, List, nat_eq, refl, Some, sym, true, ℕ}
+use Rattle.vt_spec.proofs.Common.{Content, FileTree, Fresh, Inodes, Lower, Node, Stack, Upper, changed_node, nat_eq_itself, node_in, tree_of, with_inode}
 use Rattle.vt_spec.specs.Language.Changes.{node_with_attr}
 use Rattle.vt_spec.specs.Tree.{node_with_bytes, with_node}
 use Rattle.vt_spec.specs.Tree.Content.{Directory, Regular, Symlink, Whiteout}
@@ -10,7 +10,7 @@ use Rattle.vt_laws_worlds.specs.Merging.UpperChanges.{copy_node, held_over, node
 use Rattle.vt_laws_worlds.specs.Merging.UpperChanges.Place.{Held}
 use Rattle.vt_copyup.specs.Copied.{copied}
 use Rattle.vt_copyup.proofs.Changed.{inodes_after, still_there}
-use Rattle.vt_fs.specs.FilesystemsValue.{Filesystems, entry_of, files_at, inodes_at}
+use Rattle.vt_fs.specs.FilesystemsValue.{entry_of, files_at, inodes_at}
 use Rattle.vt_fs.specs.Trees.TreeValue.{with_unnamed}
 use Rattle.vt_location.specs.declared.locations.InodeRef.{InodeRef}
 use Rattle.vt_location.specs.Locations.{inode_of}

@@ -28,7 +28,7 @@ use Rattle.vt_upper.specs.declared.keeping.KeptObject.TheVariants.{Copied, There
 use Rattle.vt_upper.proofs.LastMade.{fit_of}
 use Rattle.vt_upper_overlay.specs.MergedAbove.{count_of, lent, object_lent, upper_count}
 use Rattle.vt_upper_overlay.specs.Standing.{StandsAbove}
-use Rattle.vt_upper_overlay.specs.UpperValue.{UpperOverlayValue, place_born, real_at, real_by}
+use Rattle.vt_upper_overlay.specs.UpperValue.{UpperOverlayValue, real_at, real_by}
 use Rattle.vt_upper_overlay.proofs.Objects.{is_placed}
 
 -- nodes by slots are of the same kind

@@ -1,6 +1,6 @@
 -- The inode in which copies end.
-use Rattle.std.proofs.Common.{◌≡◌, ◌∙◌, ◌∷◌, [], ap, cond, false, List, map, nat_eq, Option, refl, reverse, Some, subst, sym, true, ℕ}
-use Rattle.vt_spec.proofs.Common.{Content, Inode, Inodes, Make, Node, is_directory_node, nat_eq_itself, node_in}
+use Rattle.std.proofs.Common.{◌≡◌, ◌∙◌, ◌∷◌, [], ap, cond, List, map, nat_eq, Option, refl, Some, subst, sym, ℕ}
+use Rattle.vt_spec.proofs.Common.{Content, Inodes, Make, Node, is_directory_node, nat_eq_itself, node_in}
 use Rattle.vt_spec.specs.Inodes as counting
 use Rattle.vt_spec.specs.Tree.Content.{Directory, Regular, Symlink, Whiteout}
 use Rattle.vt_copyup.specs.declared.plans.Piece.{Piece}

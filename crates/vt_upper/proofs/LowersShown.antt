@@ -1,5 +1,5 @@
 -- What lower layers show, by their own places and by those under an upper layer.
-use Rattle.std.proofs.Common.{◌≡◌, ◌∙◌, ◌+◌, ◌∷◌, [], ap, arith, Bool, false, if◌then◌else◌, is_some, List, map, None, not, option_map, Option, refl, slice_get, Some, suc, sym, true, zero, ℕ}
+use Rattle.std.proofs.Common.{◌≡◌, ◌∙◌, ◌+◌, ◌∷◌, [], ap, arith, Bool, false, if◌then◌else◌, is_some, List, map, None, not, option_map, Option, refl, slice_get, Some, suc, sym, true, ℕ}
 use Rattle.vt_spec.proofs.Common.{OpenLayer, Shown, cuts, holds_of, is_directory_node, is_kind_in, same_Some, shown, shown_from, slice_get-map, view_of, when, without_last}
 use Rattle.vt_spec.specs.declared.attributes.Kind.TheVariants.{White}
 use Rattle.vt_spec.specs.Machine.CopyUp.{is_directory_shown}

@@ -1,40 +1,42 @@
 -- The directory in which an inode is made, and what has the name there.
-use Rattle.std.proofs.Common.{◌≡◌, ◌∙◌, ◌+◌, ◌<◌, ◌≤◌, ◌++◌, ◌∷◌, [], ap, append-nil, arith, Bool, eqb-true, false, IfOk, IfSome, is_some, IsSome, length, List, map, nat_eq, None, not, option_map, Option, refl, reverse, slice_get, Some, subst, suc, sym, true, true≢false, zero, ⊎_elim, ℕ}
+use Rattle.std.proofs.Common.{◌≡◌, ◌∙◌, ◌+◌, ◌<◌, ◌≤◌, ◌++◌, ◌∷◌, [], ap, append-nil, append_assoc, arith, Bool, eqb-true, false, IfOk, IfSome, is_some, IsSome, length, List, nat_eq, None, not, option_map, Option, refl, reverse, slice_get, Some, subst, suc, sym, true, true≢false, zero, ⊎_elim, ℕ}
+use Rattle.std.proofs.lemmas.List.{length-append}
 use Rattle.std.specs.Prelude.{Result}
 use Rattle.std.specs.declared.result.Result.TheVariants.{Ok, Err}
-use Rattle.vt_spec.proofs.Common.{Content, FileTree, Inodes, IsDirectory, IsTree, Node, Shown, Tree, at_path, entries_in, entry_at, is_directory_node, is_kind_in, led-append, length-reverse, same_Some, shown, tree_of, when}
-use Rattle.vt_spec.specs.Inodes.{changed}
-use Rattle.vt_spec.specs.Lists.{folded}
+use Rattle.vt_spec.proofs.Common.{Content, FileTree, Inodes, IsDirectory, IsTree, Node, Shown, Tree, at_path, entries_in, entry_at, entry_named, is_directory_node, is_kind_in, is_sorted, led, led-append, length-reverse, name_cmp, names_in, same_Some, shown, tree_of, when}
+use Rattle.vt_spec.specs.FileTree.{targets_in}
+use Rattle.vt_laws_trees.proofs.layers.layers.ShownPaths.{one_path}
 use Rattle.vt_spec.specs.declared.attributes.Kind.TheVariants.{White}
 use Rattle.vt_spec.specs.Tree.Content.{Directory, Regular, Symlink, Whiteout}
 use Rattle.vt_births.specs.Births.{BirthsValue}
 use Rattle.vt_copyup.specs.declared.plans.Piece.{Piece}
 use Rattle.vt_copyup.specs.declared.plans.Plan.{Plan}
 use Rattle.vt_copyup.specs.Planned.{names_of}
-use Rattle.vt_copyup.specs.Plans.{EntriesAreThere, IsReady, in_turn, many}
+use Rattle.vt_copyup.specs.Plans.{in_turn, many}
 use Rattle.vt_copyup.proofs.Changed.{is_there, promised_files, promised_more}
-use Rattle.vt_copyup.proofs.Ready.{entries_are_there}
 use Rattle.vt_fs.specs.FilesystemsValue.{Filesystems, entry_of, files_at, inodes_at, inodes_promised, no_entry, promising, with_changed}
 use Rattle.vt_fs.specs.FilesystemsValue as fs
-use Rattle.vt_laws_upper_layers.specs.Rows.{removal}
 use Rattle.vt_location.specs.declared.locations.InodeRef.{InodeRef}
 use Rattle.vt_location.specs.declared.locations.NodeRef.{NodeRef}
+use Rattle.vt_location.specs.declared.numbers.FilesystemId.{FilesystemId}
 use Rattle.vt_location.specs.Locations.{inode_of, number_of}
 use Rattle.vt_location.specs.NodeNumbers.{IsSmall}
 use Rattle.vt_overlay.specs.declared.merge.layers.LayerRef.{LayerRef}
-use Rattle.vt_overlay.specs.declared.merge.layers.Real.{Real as Object}
 use Rattle.vt_overlay.specs.Merge.LayerValue.{layer_of, layers_of, seen_of}
 use Rattle.vt_upper.specs.Copies.{AreCopiesOf, IsLastFit, IsLastOf}
 use Rattle.vt_upper.specs.Copies.AreCopiesOf.{is_above, is_below}
 use Rattle.vt_upper.specs.declared.making.Place.{Place}
 use Rattle.vt_upper.specs.declared.making.Place.TheVariants.{Copied, There}
-use Rattle.vt_upper.specs.New.{HasName, IsAbove, IsBare, IsCopiedFrom, IsLeft, IsPlaceReady, IsThereReady, MayMakeIn, MayPutIn}
+use Rattle.vt_upper.specs.declared.leaving.Leaving.{Leaving}
+use Rattle.vt_upper.specs.declared.making.Spot.{Spot}
+use Rattle.vt_upper.specs.Leaving.{MayBeEmptied, NamesAreUsed}
+use Rattle.vt_upper.specs.New.{HasName, IsAbove, IsCopiedFrom, IsKnown, IsPlaceReady, MayBeFreed, MayMakeIn, MayPutIn, MayRemoveFrom, object_in}
 use Rattle.vt_upper.proofs.BornBelow.{at_its_path}
 use Rattle.vt_upper.proofs.FitCopies.{fit_copies, shown_first}
 use Rattle.vt_upper.proofs.PlansOf.{AreSplit, count_is, is_first, split_layers}
 use Rattle.vt_upper_overlay.specs.MergedAbove.{number_at, object_lent, object_shown, upper_count}
 use Rattle.vt_upper_overlay.specs.Standing.{StandsAbove}
-use Rattle.vt_upper_overlay.specs.UpperValue.{UpperOverlayValue, real_at}
+use Rattle.vt_upper_overlay.specs.UpperValue.{UpperOverlayValue}
 use Rattle.vt_upper_overlay.proofs.Objects.{real_shown_at}
 use Rattle.vt_upper_overlay.proofs.Shown.{IsLooked, shown_node}
 use Rattle.vt_upper_overlay.proofs.Shown as shows
@@ -93,15 +95,6 @@ when_none : (b : Bool) (seen : Shown ℕ) → when (not b) seen ≡ None → b �
 when_none true seen none = refl
 when_none false seen none = absurd (true≢false (ap is_some none))
 
-different : (tree : Tree ℕ) (directory number : ℕ) → IsDirectory tree directory
-    → is_directory_node (tree.node number) ≡ false → nat_eq directory number ≡ false
-different tree directory number is other = by (nat_eq directory number) refl
-  where
-    by : (b : Bool) → nat_eq directory number ≡ b → nat_eq directory number ≡ false
-    by false e = e
-    by true e = absurd (true≢false (sym is ∙ ap (λ n. is_directory_node (tree.node n)) (eqb-true directory number e)
-        ∙ other))
-
 -- with copies, nothing is said of what is there
 copies_last : (IsCopied IsThere IsOther : Option (Node ℕ) → Type 0) (pieces : List Piece) (node other : Option (Node ℕ))
     → 0 < length pieces → IsLastOf IsCopied IsThere pieces node → IsLastOf IsCopied IsOther pieces other
@@ -132,7 +125,7 @@ some_pieces plan some =
 pub copied_ok : {E : Type 0} (copies : Plan) (Holds : Place → Type 0) (result : Result Place E)
     → IfOk result (IsCopiedFrom copies) → ((room : ℕ) → 0 < room → Holds (Copied copies room)) → IfOk result Holds
 copied_ok copies Holds (Err e) is holds = tt
-copied_ok copies Holds (Ok (There directory white)) is holds = absurd (true≢false (sym is))
+copied_ok copies Holds (Ok (There spot)) is holds = absurd (true≢false (sym is))
 copied_ok copies Holds (Ok (Copied plan room)) is holds =
     subst (λ (p : Plan). Holds (Copied p room)) (sym is.0) (holds room is.1)
 
@@ -158,6 +151,10 @@ module _ (trees : Filesystems) (overlay : UpperOverlayValue) (looked : IsLooked 
 
   layer_is_tree : IsTree tree
   layer_is_tree = subst (λ n. IsTree (files_at trees n).tree) (sym f_is) (looked.stands.layers 0 top top_first).tree
+
+  -- names stand in order
+  pub in_order : (number : ℕ) → is_sorted name_cmp (entries_in (tree.node number)) ≡ true
+  in_order number = layer_is_tree.in_order number
 
   -- the upper layer's filesystem is there, and inodes may be promised in it
   more_promised : (inodes : ℕ)
@@ -234,96 +231,179 @@ module _ (trees : Filesystems) (overlay : UpperOverlayValue) (looked : IsLooked 
               (ap (at_path (layer_of trees split.upper)) (sym whole) ∙ is.leads);
         }
 
-    module _ (name : List ℕ) (may : MayPutIn trees overlay node name) (white : Option InodeRef)
-        (leads : option_map inode_of white ≡ entry_at tree (inode_of plan.directory) name)
-        (own : IfSome white (λ (w : InodeRef). w.filesystem ≡ plan.directory.filesystem)) where
-      bare_white : (w : InodeRef) → white ≡ Some w → IsBare tree plan.directory w
-      bare_white w e = may.bare plan.directory w (above_found copies) upper_is
-          (subst (λ o. IfSome o (λ (w : InodeRef). w.filesystem ≡ plan.directory.filesystem)) e own) directory_there
-          (sym leads ∙ ap (option_map inode_of) e)
+    module _ (name : List ℕ) (may : MayPutIn trees overlay node name) (leaving : Option Leaving)
+        (leads : option_map object_in leaving ≡ entry_at tree (inode_of plan.directory) name)
+        (known : IfSome leaving (IsKnown trees plan.directory)) where
+      abbrev at : IsAbove trees overlay node plan.directory
+      at = above_found copies
 
-      all_bare : (o : Option InodeRef) → white ≡ o → IfSome o (IsBare tree plan.directory)
-      all_bare None e = tt
-      all_bare (Some w) e = bare_white w e
+      abbrev spot : Spot
+      spot = record { directory = plan.directory; leaving = leaving; keeps = false }
 
-      pub has_name : HasName tree plan.directory name white
+      -- no directory has a name in itself
+      not_itself : (object : ℕ) → entry_at tree (inode_of plan.directory) name ≡ Some object
+          → nat_eq object (inode_of plan.directory) ≡ false
+      not_itself object entry = by (nat_eq object (inode_of plan.directory)) refl
+        where
+          led_so : led tree (inode_of top.directory) at.path ≡ Some (inode_of plan.directory)
+          led_so = ap (λ n. led (files_at trees n).tree (inode_of top.directory) at.path) f_is ∙ at.leads top top_first
+
+          by : (b : Bool) → nat_eq object (inode_of plan.directory) ≡ b
+              → nat_eq object (inode_of plan.directory) ≡ false
+          by false e = e
+          by true e =
+              let same : object ≡ inode_of plan.directory = eqb-true object (inode_of plan.directory) e in
+              let longer : led tree (inode_of top.directory) (at.path ++ name ∷ []) ≡ Some (inode_of plan.directory) =
+              led-append tree (inode_of top.directory) at.path name (inode_of plan.directory) object led_so entry
+              ∙ ap Some same in
+              let path : at.path ++ name ∷ [] ≡ at.path =
+              one_path tree layer_is_tree (inode_of top.directory) (at.path ++ name ∷ []) at.path (inode_of plan.directory)
+              longer led_so directory_there in
+              let long = ap length path in
+              let sum = length-append at.path (name ∷ []) in
+              absurd (let no : ⊥ = omega (arith, long, sum) in no)
+
+      freed_so : (l : Leaving) → leaving ≡ Some l → MayBeFreed trees plan.directory l
+      freed_so l e =
+          let is : IsKnown trees plan.directory l = subst (λ o. IfSome o (IsKnown trees plan.directory)) e known in
+          let entry : entry_at tree (inode_of plan.directory) name ≡ Some (object_in l) =
+          sym leads ∙ ap (option_map object_in) e in
+          record {
+            filesystem = is.filesystem;
+            known = is.known;
+            other = not_itself (object_in l) entry;
+            emptied = record {
+              order = layer_is_tree.in_order (object_in l);
+              plain = λ word one leads_on. may.plain plan.directory (object_in l) one word at upper_is entry leads_on;
+              few = is.few;
+            };
+          }
+
+      all_freed : (o : Option Leaving) → leaving ≡ o → IfSome o (MayBeFreed trees plan.directory)
+      all_freed None e = tt
+      all_freed (Some l) e = freed_so l e
+
+      pub has_name : HasName trees spot name
       has_name = record {
         directory_there = directory_there;
         leads = sym leads;
-        bare = all_bare white refl;
+        leaves = all_freed leaving refl;
+        used = subst (λ n. NamesAreUsed (inodes_at trees n)) (sym upper_is) may.used;
       }
 
-      left_so : (o : Option InodeRef) → HasName tree plan.directory name o
-          → IsLeft (inodes_at trees f) plan.directory name o
-      left_so None has = entries_are_there tree layer_is_tree
-      left_so (Some w) has = may.left plan.directory w upper_is has
-
       -- the name is as it was once inodes are promised
-      pub name_there : (inodes : ℕ) → HasName (files_at (with_changed f (promising inodes) trees) f).tree plan.directory
-          name white
-      name_there inodes = subst (λ (files : FileTree ℕ). HasName files.tree plan.directory name white)
-          (sym (promised_files f inodes trees)) has_name
+      module _ (inodes : ℕ) where
+        abbrev promised : Filesystems
+        promised = with_changed f (promising inodes) trees
 
-      -- it is ready for the name once inodes are promised
-      pub there_ready : (inodes room : ℕ) → 0 < inodes
-          → length (entries_in (tree.node (inode_of plan.directory))) + 1 ≤ room
-          → IsThereReady plan.directory white name (with_changed f (promising inodes) trees) room
-      there_ready inodes room more has_room =
-          let same = promised_files f inodes trees in
-          let promised = more_promised inodes in
-          record {
-            has_name = subst (λ (files : FileTree ℕ). HasName files.tree plan.directory name white) (sym same) has_name;
-            left = subst (λ (all : Inodes ℕ). IsLeft all plan.directory name white)
-                (sym (promised_inodes f inodes trees)) (left_so white has_name);
-            promised = omega (arith, promised, more);
-            has_room = subst (λ (files : FileTree ℕ). length (entries_in (files.tree.node (inode_of plan.directory))) < room)
-                (sym same) (omega (arith, has_room));
-          }
+        still : inodes_at promised f ≡ inodes_at trees f
+        still = promised_inodes f inodes trees
 
--- where a directory shows nothing under a name, what has it in the upper layer is a whiteout
+        freed_still : (l : Leaving) → MayBeFreed trees plan.directory l → MayBeFreed promised plan.directory l
+        freed_still l is =
+            let count : l.object.filesystem.count ≡ f = ap (λ (id : FilesystemId). id.count) is.filesystem in
+            let node : (files_at promised l.object.filesystem.count).tree.node (inode_of l.object)
+            ≡ (files_at trees l.object.filesystem.count).tree.node (inode_of l.object) =
+            ap (λ n. (files_at promised n).tree.node (inode_of l.object)) count
+            ∙ ap (λ (files : FileTree ℕ). files.tree.node (inode_of l.object)) (promised_files f inodes trees)
+            ∙ ap (λ n. (files_at trees n).tree.node (inode_of l.object)) (sym count) in
+            record {
+              filesystem = is.filesystem;
+              known = record {
+                names = is.known.names ∙ ap names_in (sym node);
+                inodes = is.known.inodes ∙ ap targets_in (sym node);
+                own = is.known.own;
+              };
+              other = is.other;
+              emptied = subst (λ all. MayBeEmptied all (inode_of l.object)) (sym still) is.emptied;
+            }
+
+        each_still : (o : Option Leaving) → IfSome o (MayBeFreed trees plan.directory)
+            → IfSome o (MayBeFreed promised plan.directory)
+        each_still None is = tt
+        each_still (Some l) is = freed_still l is
+
+        pub name_there : HasName promised spot name
+        name_there = record {
+          directory_there = ap (λ (files : FileTree ℕ). is_directory_node (files.tree.node (inode_of plan.directory)))
+              (promised_files f inodes trees) ∙ has_name.directory_there;
+          leads = ap (λ (files : FileTree ℕ). entry_at files.tree (inode_of plan.directory) name)
+              (promised_files f inodes trees) ∙ has_name.leads;
+          leaves = each_still leaving has_name.leaves;
+          used = subst NamesAreUsed (sym still) has_name.used;
+        }
+
+        -- so is its place, with room for one name
+        pub there_ready : (births : BirthsValue) (room : ℕ) → 0 < inodes
+            → length (entries_in (tree.node (inode_of plan.directory))) + 1 ≤ room
+            → IsPlaceReady (There spot) name promised births room
+        there_ready births room more has_room =
+            let enough = more_promised inodes in
+            let same = ap (λ (files : FileTree ℕ). length (entries_in (files.tree.node (inode_of plan.directory))))
+            (promised_files f inodes trees) in (
+              name_there,
+              omega (arith, enough, more),
+              omega (arith, same, has_room),
+            )
+
+-- where a directory shows nothing under a name, what has it in the upper layer is a whiteout, and has nothing in it
 module _ (trees : Filesystems) (overlay : UpperOverlayValue) (stands : StandsAbove trees overlay) (node : NodeRef)
-    (name : List ℕ) (may : MayMakeIn trees overlay node name) where
+    (name : List ℕ) where
   whole : AreSplit overlay.layers.lowers
   whole = split_layers overlay.layers.lowers stands.upper
 
   whole_first : slice_get overlay.layers.lowers 0 ≡ Some whole.upper
   whole_first = ap (λ l. slice_get l 0) whole.is
 
-  module _ (directory w : InodeRef) (at : IsAbove trees overlay node directory)
-      (count : directory.filesystem.count ≡ upper_count overlay) (own : w.filesystem ≡ directory.filesystem)
-      (is_directory : IsDirectory (files_at trees directory.filesystem.count).tree (inode_of directory))
-      (entry : entry_at (files_at trees directory.filesystem.count).tree (inode_of directory) name
-      ≡ Some (inode_of w)) where
+  module _ (directory : InodeRef) (object : ℕ) (at : IsAbove trees overlay node directory)
+      (count : directory.filesystem.count ≡ upper_count overlay)
+      (entry : entry_at (files_at trees directory.filesystem.count).tree (inode_of directory) name ≡ Some object) where
+    abbrev tree_in : Tree ℕ
+    tree_in = (files_at trees directory.filesystem.count).tree
+
     whole_count : directory.filesystem.count ≡ whole.upper.directory.filesystem.count
     whole_count = count ∙ count_is trees overlay stands whole.upper whole_first
 
-    longer : at_path (layer_of trees whole.upper) (at.path ++ name ∷ []) ≡ Some (inode_of w)
+    -- where a path leads that shows nothing is a whiteout
+    white_at : (path : List (List ℕ)) (number : ℕ)
+        → at_path (layer_of trees whole.upper) path ≡ Some number
+        → shown (layers_of trees overlay.layers.lowers) path ≡ None → IsWhite (tree_in.node number)
+    white_at path number leads none = white_so (tree_in.node number)
+        (ap (λ n. is_kind_in White ((files_at trees n).tree.node number)) whole_count
+        ∙ when_none (is_kind_in White ((files_at trees whole.upper.directory.filesystem.count).tree.node number))
+        (record { layer = 0; object = number })
+        (sym (shown_first trees overlay.layers.lowers whole.upper whole_first path number leads) ∙ none))
+
+    longer : at_path (layer_of trees whole.upper) (at.path ++ name ∷ []) ≡ Some object
     longer = led-append (layer_of trees whole.upper).tree (inode_of whole.upper.directory) at.path name
-        (inode_of directory) (inode_of w) (at.leads whole.upper whole_first)
+        (inode_of directory) object (at.leads whole.upper whole_first)
         (ap (λ n. entry_at (files_at trees n).tree (inode_of directory) name) (sym whole_count) ∙ entry)
 
-    is_white : is_kind_in White ((files_at trees directory.filesystem.count).tree.node (inode_of w)) ≡ true
-    is_white = ap (λ n. is_kind_in White ((files_at trees n).tree.node (inode_of w))) whole_count
-        ∙ when_none (is_kind_in White ((files_at trees whole.upper.directory.filesystem.count).tree.node (inode_of w)))
-        (record { layer = 0; object = inode_of w })
-        (sym (shown_first trees overlay.layers.lowers whole.upper whole_first (at.path ++ name ∷ []) (inode_of w) longer)
-        ∙ may.free at.path at.numbered)
+    longest : (word : List ℕ) (one : ℕ) → entry_at tree_in object word ≡ Some one
+        → at_path (layer_of trees whole.upper) (at.path ++ name ∷ word ∷ []) ≡ Some one
+    longest word one leads =
+        ap (at_path (layer_of trees whole.upper)) (sym (append_assoc at.path (name ∷ []) (word ∷ [])))
+        ∙ led-append (layer_of trees whole.upper).tree (inode_of whole.upper.directory) (at.path ++ name ∷ []) word
+        object one longer
+        (ap (λ n. entry_at (files_at trees n).tree object word) (sym whole_count) ∙ leads)
 
-    white_bare : IsBare (files_at trees directory.filesystem.count).tree directory w
-    white_bare =
-        let is = white_so ((files_at trees directory.filesystem.count).tree.node (inode_of w)) is_white in
-        record {
-          filesystem = own;
-          there = is.there;
-          empty = is.empty;
-          other = different (files_at trees directory.filesystem.count).tree (inode_of directory) (inode_of w)
-              is_directory is.other;
-        }
-
-  pub may_put : MayPutIn trees overlay node name
-  may_put = record {
+  pub may_put : MayMakeIn trees overlay node name → MayPutIn trees overlay node name
+  may_put may = record {
     shown_there = may.shown_there;
     directory = may.directory;
-    bare = white_bare;
-    left = may.left;
+    plain = λ directory object one word at count entry leads.
+        let white = white_at directory object at count entry (at.path ++ name ∷ []) object
+        (longer directory object at count entry) (may.free at.path at.numbered) in
+        absurd (true≢false (ap is_some (sym leads ∙ ap (entry_named word) white.empty)));
+    used = may.used;
+  }
+
+  pub may_take : MayRemoveFrom trees overlay node name → MayPutIn trees overlay node name
+  may_take may = record {
+    shown_there = may.shown_there;
+    directory = may.directory;
+    plain = λ directory object one word at count entry leads.
+        (white_at directory object at count entry (at.path ++ name ∷ word ∷ []) one
+        (longest directory object at count entry word one leads) (may.bare at.path word at.numbered)).other;
+    used = may.used;
   }

@@ -1,12 +1,12 @@
 -- Where a place is in the upper layer's tree, once all is copied.
-use Rattle.std.proofs.Common.{◌≡◌, ◌≢◌, ◌∙◌, ◌++◌, ◌∷◌, [], ap, append-nil, arith, Bool, eq-eqb, false, IfSome, is_some, length, List, map, nat_eq, None, option_map, Option, refl, Some, subst, sym, true, true≢false, unwrap_or, ℕ}
-use Rattle.vt_spec.proofs.Common.{Change, FileTree, Fresh, Inodes, IsDirectory, Make, Merge, Node, Stack, Tree, at_path, entries_in, entry_at, entry_named, evens, same_Some}
+use Rattle.std.proofs.Common.{◌≡◌, ◌∙◌, [], ap, append-nil, is_some, length, List, refl, Some, subst, sym, true, unwrap_or, ℕ}
+use Rattle.vt_spec.proofs.Common.{FileTree, Fresh, IsDirectory, Merge, Stack, Tree, at_path, entry_at, entry_named, evens, is_directory_node}
 use Rattle.vt_spec.specs.Rights.{Credentials}
 use Rattle.vt_laws_trees.specs.Overlays.WhatIsShown.{IsWhole}
 use Rattle.vt_laws_worlds.proofs.merging.upper.Copying.{none_copied}
 use Rattle.vt_laws_worlds.proofs.merging.upper.Places.{prefixes_lead_to_copies}
 use Rattle.vt_laws_worlds.proofs.merging.upper.UpperKinds.{even_new}
-use Rattle.vt_laws_worlds.specs.Merging.UpperChanges.{AreNew, LeadsToDirectory, copied_to, copy_node, directory_below, led_above, object_above}
+use Rattle.vt_laws_worlds.specs.Merging.UpperChanges.{AreNew, LeadsToDirectory, copied_to, led_above, object_above}
 use Rattle.vt_laws_worlds.specs.Seen.CopySteps.{made_in_turn}
 use Rattle.vt_births.specs.Births.{BirthsValue}
 use Rattle.vt_copyup.specs.declared.plans.Plan.{Plan}
@@ -14,8 +14,8 @@ use Rattle.vt_copyup.specs.Laws.{AreHanded}
 use Rattle.vt_copyup.specs.Made.{AreMade, last_made, made_copies}
 use Rattle.vt_copyup.specs.Planned.{IsPlanOf, stack_of}
 use Rattle.vt_copyup.specs.Plans.{copies_of, in_turn}
-use Rattle.vt_copyup.proofs.Changed.{inodes_after, is_there, still_there}
-use Rattle.vt_fs.specs.FilesystemsValue.{ChangesInodes, Filesystems, entry_of, files_at, inodes_at}
+use Rattle.vt_copyup.proofs.Changed.{is_there, still_there}
+use Rattle.vt_fs.specs.FilesystemsValue.{Filesystems, entry_of, files_at}
 use Rattle.vt_location.specs.declared.locations.InodeRef.{InodeRef}
 use Rattle.vt_location.specs.declared.numbers.FilesystemId.{FilesystemId}
 use Rattle.vt_location.specs.Locations.{inode_of}
@@ -23,7 +23,9 @@ use Rattle.vt_overlay.specs.declared.merge.layers.LayerRef.{LayerRef}
 use Rattle.vt_overlay.specs.Merge.LayerValue.{layer_of}
 use Rattle.vt_upper.specs.declared.making.Place.{Place}
 use Rattle.vt_upper.specs.declared.making.Place.TheVariants.{Copied, There}
-use Rattle.vt_upper.specs.New.{IsBare, IsNameReady, IsPlaceReady, copies_in, start_of, white_in}
+use Rattle.vt_upper.specs.declared.making.Spot.{Spot}
+use Rattle.vt_upper.specs.Leaving.{within_of}
+use Rattle.vt_upper.specs.New.{IsNameReady, IsPlaceReady, copies_in, had_in, leaves_in, start_of}
 use Rattle.vt_upper.specs.NewLaws.{IsPlaceAt}
 use Rattle.vt_upper.proofs.ChangesMade.{copied_whole, no_copies, object_is}
 use Rattle.vt_upper.proofs.EmptyCopies.{empty_copy}
@@ -46,9 +48,9 @@ module _ (fresh : Fresh ℕ) (mounter : Credentials) (merge : Merge ℕ)
   pub record IsMadeAt (place : Place) (between : Filesystems) (at : InodeRef) : Type 0 where
     pub tree : (files_at between (start_of place).filesystem.count).tree ≡ copied.tree
     pub led_so : led_above stack copied path ≡ Some (inode_of at)
-    pub white : entry_at copied.tree (inode_of at) name ≡ white_in place
-    pub apart : white_in place ≢ Some (inode_of at)
-    pub bare : (inode : ℕ) → white_in place ≡ Some inode → entries_in (copied.tree.node inode) ≡ []
+    pub directory_there : IsDirectory copied.tree (inode_of at)
+    pub leaves : entry_at copied.tree (inode_of at) name ≡ leaves_in place
+    pub within : within_of copied.tree (leaves_in place) ≡ within_of merge.upper.tree (leaves_in place)
 
   pub object_there : (place : Place) (between : Filesystems) (at : InodeRef) → IsMadeAt place between at
       → object_above stack copied path ≡ inode_of at
@@ -56,63 +58,46 @@ module _ (fresh : Fresh ℕ) (mounter : Credentials) (merge : Merge ℕ)
 
   module _ (births : BirthsValue) (room : ℕ) (between : Filesystems) (births_after : BirthsValue) (at : InodeRef) where
     -- where nothing is copied
-    made_there : (here : InodeRef) (white : Option InodeRef)
-        → merge.upper ≡ files_at promised here.filesystem.count
-        → IsNameReady (There here white) name promised births room
-        → (are : AreMade here [] promised births between births_after at)
-        → at_path (layer_of trees upper) path ≡ Some (inode_of here)
-        → here.filesystem ≡ upper.directory.filesystem → merge.upper ≡ files_at trees here.filesystem.count
-        → IsMadeAt (There here white) between at
-    made_there here white same ready are led own upper_is = record {
+    made_there : (spot : Spot) → merge.upper ≡ files_at promised spot.directory.filesystem.count
+        → IsNameReady (There spot) name promised births room
+        → (are : AreMade spot.directory [] promised births between births_after at)
+        → at_path (layer_of trees upper) path ≡ Some (inode_of spot.directory)
+        → spot.directory.filesystem ≡ upper.directory.filesystem
+        → merge.upper ≡ files_at trees spot.directory.filesystem.count
+        → IsMadeAt (There spot) between at
+    made_there spot same ready are led own upper_is = record {
       tree = tree_is ∙ ap (λ (files : FileTree ℕ). files.tree) (sym none);
       led_so = ap (λ (files : FileTree ℕ). led_above stack files path) none ∙ led_here
           ∙ ap (λ (d : InodeRef). Some (inode_of d)) (sym at_is);
-      white = ap (λ (files : FileTree ℕ). entry_at files.tree (inode_of at) name) none
+      directory_there = ap (λ (files : FileTree ℕ). is_directory_node (files.tree.node (inode_of at))) none
+          ∙ ap (λ (d : InodeRef). is_directory_node (merge.upper.tree.node (inode_of d))) at_is
+          ∙ ap (λ (files : FileTree ℕ). is_directory_node (files.tree.node (inode_of spot.directory))) same
+          ∙ ready.directory_there;
+      leaves = ap (λ (files : FileTree ℕ). entry_at files.tree (inode_of at) name) none
           ∙ ap (λ (d : InodeRef). entry_at merge.upper.tree (inode_of d) name) at_is
-          ∙ ap (λ (files : FileTree ℕ). entry_at files.tree (inode_of here) name) same
+          ∙ ap (λ (files : FileTree ℕ). entry_at files.tree (inode_of spot.directory) name) same
           ∙ ready.leads;
-      apart = λ e. by white refl e;
-      bare = λ inode e. ap (λ (files : FileTree ℕ). entries_in (files.tree.node inode)) (none ∙ same)
-          ∙ entries_none white refl inode e;
+      within = ap (λ (files : FileTree ℕ). within_of files.tree (had_in spot)) none;
     }
       where
         nothing : are.made ≡ []
         nothing = no_copies are.made are.all
 
-        at_is : at ≡ here
-        at_is = are.is_last ∙ ap (last_made here) nothing
+        at_is : at ≡ spot.directory
+        at_is = are.is_last ∙ ap (last_made spot.directory) nothing
 
-        tree_is : (files_at between here.filesystem.count).tree ≡ merge.upper.tree
+        tree_is : (files_at between spot.directory.filesystem.count).tree ≡ merge.upper.tree
         tree_is = are.tree
-            ∙ ap (λ made. (made_in_turn (files_at promised here.filesystem.count) (inode_of here)
-            (made_copies here.filesystem.count made)).tree) nothing
+            ∙ ap (λ made. (made_in_turn (files_at promised spot.directory.filesystem.count) (inode_of spot.directory)
+            (made_copies spot.directory.filesystem.count made)).tree) nothing
             ∙ ap (λ (files : FileTree ℕ). files.tree) (sym same)
 
-        led_here : led_above stack merge.upper path ≡ Some (inode_of here)
+        led_here : led_above stack merge.upper path ≡ Some (inode_of spot.directory)
         led_here = ap (λ (files : FileTree ℕ). led_above stack files path)
             (upper_is ∙ ap (λ (id : FilesystemId). files_at trees id.count) own) ∙ led
 
         none : copied ≡ merge.upper
         none = none_copied (evens fresh) stack merge.upper (length path) path refl (ap is_some led_here)
-
-        entries_none : (o : Option InodeRef) → white ≡ o → (inode : ℕ) → option_map inode_of white ≡ Some inode
-            → entries_in ((files_at promised here.filesystem.count).tree.node inode) ≡ []
-        entries_none None w inode e = absurd (true≢false (sym (ap is_some (sym (ap (option_map inode_of) w) ∙ e))))
-        entries_none (Some one) w inode e =
-            let bare = subst (λ o. IfSome o (IsBare (files_at promised here.filesystem.count).tree here)) w ready.bare in
-            ap (λ n. entries_in ((files_at promised here.filesystem.count).tree.node n))
-            (same_Some inode (inode_of one) (sym e ∙ ap (option_map inode_of) w)) ∙ bare.empty
-
-        by : (o : Option InodeRef) → white ≡ o → option_map inode_of white ≡ Some (inode_of at)
-            → ⊥
-        by None w e = absurd (true≢false (sym (ap is_some (sym (ap (option_map inode_of) w) ∙ e))))
-        by (Some one) w e =
-            let bare = subst (λ o. IfSome o (IsBare (files_at promised here.filesystem.count).tree here)) w ready.bare in
-            let same_number : inode_of one ≡ inode_of at =
-            same_Some (inode_of one) (inode_of at)
-            (sym (ap (option_map inode_of) w) ∙ e) in
-            true≢false (sym (eq-eqb (inode_of here) (inode_of one) (ap inode_of (sym at_is) ∙ sym same_number))
-            ∙ bare.other)
 
     -- where the directory is copied
     made_copied : (plan : Plan) (own_room : ℕ)
@@ -129,9 +114,9 @@ module _ (fresh : Fresh ℕ) (mounter : Credentials) (merge : Merge ℕ)
           (append-nil path)
           ∙ ap Some (object_is (evens fresh) mounter merge trees upper lowers overlay path plan are.made whole upper_is even
           are.all is handed ∙ ap inode_of (sym are.is_last));
-      white = ap (λ (t : Tree ℕ). entry_at t (inode_of at) name) (sym tree_is) ∙ ap (entry_named name) empty.1;
-      apart = λ e. true≢false (sym (ap is_some e));
-      bare = λ inode e. absurd (true≢false (sym (ap is_some e)));
+      directory_there = ap (λ (t : Tree ℕ). is_directory_node (t.node (inode_of at))) (sym tree_is) ∙ empty.0;
+      leaves = ap (λ (t : Tree ℕ). entry_at t (inode_of at) name) (sym tree_is) ∙ ap (entry_named name) empty.1;
+      within = refl;
     }
       where
         tree_is : (files_at between plan.directory.filesystem.count).tree ≡ copied.tree
@@ -152,14 +137,14 @@ module _ (fresh : Fresh ℕ) (mounter : Credentials) (merge : Merge ℕ)
         → (are : AreMade (start_of place) (copies_in place) promised births between births_after at)
         → IsPlaceAt (evens fresh) trees upper lowers overlay path are.made place
         → IsMadeAt place between at
-    made_at (There here white) own upper_is same ready are led = made_there here white same ready are led own upper_is
+    made_at (There spot) own upper_is same ready are led = made_there spot same ready are led own upper_is
     made_at (Copied plan own_room) own upper_is same ready are led =
         made_copied plan own_room same ready are led.0 led.1 upper_is
 
 -- a place that is ready for an inode is ready for a name
 pub place_named : (place : Place) (name : List ℕ) (trees : Filesystems) (births : BirthsValue) (room : ℕ)
     → IsPlaceReady place name trees births room → IsNameReady place name trees births room
-place_named (There directory white) name trees births room ready = ready.has_name
+place_named (There spot) name trees births room ready = ready.0
 place_named (Copied copies own) name trees births room ready = (ready.0, ready.2)
 
 -- the upper layer's filesystem is there then

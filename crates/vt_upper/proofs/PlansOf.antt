@@ -1,5 +1,5 @@
 -- Copies of an object: their births, and what is ready where none are needed.
-use Rattle.std.proofs.Common.{◌≡◌, ◌∙◌, ◌+◌, ◌<◌, ◌≤◌, ◌∷◌, [], ap, arith, Bool, is_some, length, List, None, nat_eq, option_map, Option, refl, reverse, slice_get, Some, subst, sym, suc, true, zero, ℕ, IfOk}
+use Rattle.std.proofs.Common.{◌≡◌, ◌∙◌, ◌+◌, ◌<◌, ◌∷◌, [], ap, arith, Bool, is_some, length, List, None, option_map, refl, reverse, slice_get, Some, subst, sym, true, ℕ, IfOk}
 use Rattle.std.specs.Prelude.{Result}
 use Rattle.std.specs.declared.result.Result.TheVariants.{Ok, Err}
 use Rattle.vt_spec.proofs.Common.{All-nil, FileTree, same_Some}
@@ -7,7 +7,7 @@ use Rattle.vt_births.specs.Births.{BirthsValue, copy_of, is_born_below}
 use Rattle.vt_copyup.specs.declared.plans.Piece.{Piece}
 use Rattle.vt_copyup.specs.declared.plans.Plan.{Plan}
 use Rattle.vt_copyup.specs.Planned.{AreBirthsOf, IsPlanOf}
-use Rattle.vt_copyup.specs.Plans.{AreReady, CopiesAreThere, EntriesAreThere, FirstFits, IsReady, in_turn, many}
+use Rattle.vt_copyup.specs.Plans.{AreReady, CopiesAreThere, EntriesAreThere, FirstFits, IsReady, in_turn}
 use Rattle.vt_copyup.proofs.Changed.{promised_files}
 use Rattle.vt_copyup.proofs.Ready.{entries_are_there}
 use Rattle.vt_fs.specs.FilesystemsValue.{Filesystems, files_at, promising, with_changed}

@@ -1,12 +1,11 @@
 -- Rows of changes, in trees whose inodes count their uses, and in trees.
 use Rattle.std.proofs.Common.{◌≡◌, ◌∙◌, ◌∷◌, [], ap, arith, Bool, cond, is_some, List, nat_eq, None, Option, refl, Some, sym, true, ℕ}
-use Rattle.vt_spec.proofs.Common.{FileTree, Inode, Inodes, Node, Tree, changed, common_steps, inode_with_node, node_in, tree_of}
+use Rattle.vt_spec.proofs.Common.{FileTree, Inode, Inodes, Node, Tree, inode_with_node, node_in, tree_of}
 use Rattle.vt_spec.specs.Inodes as counting
 use Rattle.vt_spec.specs.Language.Changes.{node_with_attr}
 use Rattle.vt_spec.specs.Lists.{folded}
 use Rattle.vt_spec.specs.Tree.{node_with_bytes, with_node}
-use Rattle.vt_copyup.specs.declared.plans.Plan.{Plan}
-use Rattle.vt_copyup.proofs.Changed.{inodes_after, still_there}
+use Rattle.vt_copyup.proofs.Changed.{inodes_after}
 use Rattle.vt_fs.specs.FilesystemsValue.{ChangesInodes, Filesystems, entry_of, files_at, inodes_at}
 use Rattle.vt_laws_upper_layers.specs.Rows.{after_row}
 use Rattle.vt_upper.specs.Changes.{row_of}

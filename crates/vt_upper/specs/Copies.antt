@@ -1,5 +1,5 @@
 -- The copies that a change of an object needs: the kernel's overlayfs document, "upper and lower" (copy_up).
-use Rattle.std.specs.Prelude.{Bool, List, Option, Some, [], reverse, ℕ, ◌∷◌, ◌≡◌}
+use Rattle.std.specs.Prelude.{Bool, List, Option, Some, [], ℕ, ◌∷◌, ◌≡◌}
 use Rattle.vt_spec.specs.Tree.{Node}
 use Rattle.vt_copyup.specs.declared.plans.Piece.{Piece}
 use Rattle.vt_copyup.specs.declared.plans.Plan.{Plan}

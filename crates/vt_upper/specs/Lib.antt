@@ -1,9 +1,12 @@
 pub mod Below
 pub mod Changes
 pub mod Copies
+pub mod CopyLaws
 pub mod KeptChanges
 pub mod KeptLaws
 pub mod Laws
+pub mod Leaving
+pub mod Losing
 pub mod New
 pub mod NewLaws
 pub mod RemovalLaws

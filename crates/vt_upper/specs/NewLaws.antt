@@ -24,7 +24,8 @@ use Rattle.vt_location.specs.Locations.{inode_of}
 use Rattle.vt_overlay.specs.declared.merge.layers.LayerRef.{LayerRef}
 use Rattle.vt_overlay.specs.Merge.LayerValue.{layer_of}
 use Rattle.vt_upper.specs.Below.{is_directory_below}
-use Rattle.vt_upper.specs.New.{IsNewMade, IsPlaceReady, row_new, start_of, white_in}
+use Rattle.vt_upper.specs.Leaving.{within_of}
+use Rattle.vt_upper.specs.New.{IsNewMade, IsPlaceReady, leaves_in, made_new, start_of}
 use Rattle.vt_upper.specs.declared.making.Place.{Place}
 use Rattle.vt_upper.specs.declared.making.Place.TheVariants.{Copied, There}
 
@@ -37,14 +38,15 @@ HasNothing node =
 -- the numbers that are handed out.
 abbrev pub IsPlaceAt : Fresh ℕ → Filesystems → LayerRef → List LayerRef → FilesystemId → List (List ℕ) → List Made → Place
     → Type 0
-IsPlaceAt fresh trees upper lowers overlay path made (There directory white) =
-    at_path (layer_of trees upper) path ≡ Some (inode_of directory)
+IsPlaceAt fresh trees upper lowers overlay path made (There spot) =
+    at_path (layer_of trees upper) path ≡ Some (inode_of spot.directory)
 IsPlaceAt fresh trees upper lowers overlay path made (Copied copies room) =
     (is : IsPlanOf true trees upper lowers overlay path copies)
     × AreHanded fresh copies.directory.filesystem.count (length is.front) made
 
 -- A new object is made as a change asks that is good for a whole overlay: each inode of the upper layer's tree is then that
--- after the change by the definitions, but for a whiteout that had the name, which nothing needs any more.
+-- after the change by the definitions, but for a whiteout that had the name, which nothing needs any more. A whiteout has no
+-- entries.
 abbrev pub NewObjectsAreMade : Type 0
 NewObjectsAreMade =
     (fresh : Fresh ℕ) (mounter : Credentials) (merge : Merge ℕ) (trees promised : Filesystems) (upper : LayerRef)
@@ -59,8 +61,9 @@ NewObjectsAreMade =
     → IsAskedWell (stack_of trees upper lowers mounter) merge (Make directory name number node) → HasNothing node
     → opaque ≡ is_directory_below trees upper lowers (path ++ name ∷ [])
     → IsPlaceReady place name promised births room
-    → (new : IsNewMade place (row_new place name node opaque) promised births after births_after object)
+    → within_of merge.upper.tree (leaves_in place) ≡ []
+    → (new : IsNewMade place (made_new place name node opaque) promised births after births_after object)
     → IsPlaceAt (evens fresh) trees upper lowers overlay path new.made.made place → inode_of object ≡ odds fresh 0
-    → (inode : ℕ) → white_in place ≢ Some inode
+    → (inode : ℕ) → leaves_in place ≢ Some inode
     → (files_at after (start_of place).filesystem.count).tree.node inode
     ≡ (changed_above fresh (stack_of trees upper lowers mounter) merge.upper (MakeAt path name node)).tree.node inode

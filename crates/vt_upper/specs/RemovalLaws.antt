@@ -1,6 +1,6 @@
 -- What plans of removals make of the upper layer's tree, as the definitions see it: unlink(2), rmdir(2); the kernel's
 -- overlayfs document, "whiteouts and opaque directories".
-use Rattle.std.specs.Prelude.{List, Some, [], false, true, ℕ, ◌++◌, ◌∷◌, ◌≡◌, ◌≢◌}
+use Rattle.std.specs.Prelude.{List, [], false, true, ℕ, ◌++◌, ◌∷◌, ◌≡◌}
 use Rattle.vt_spec.specs.Language.Changes.Change.{Remove}
 use Rattle.vt_spec.specs.Lists.{Fresh, evens, odds}
 use Rattle.vt_spec.specs.Machine.CopyUp.{Merge, whiteout_of}
@@ -18,13 +18,13 @@ use Rattle.vt_location.specs.declared.numbers.FilesystemId.{FilesystemId}
 use Rattle.vt_location.specs.Locations.{inode_of}
 use Rattle.vt_overlay.specs.declared.merge.layers.LayerRef.{LayerRef}
 use Rattle.vt_upper.specs.Below.{is_shown_below}
-use Rattle.vt_upper.specs.New.{IsNameGone, IsNameReady, IsNewMade, IsPlaceReady, row_in_place, start_of, white_in}
+use Rattle.vt_upper.specs.New.{IsNameGone, IsNameReady, IsNewMade, IsPlaceReady, LosesNoName, leaves_in, made_in_place, start_of}
 use Rattle.vt_upper.specs.NewLaws.{IsPlaceAt}
 use Rattle.vt_upper.specs.declared.making.Place.{Place}
 
 -- A name is removed as a change asks that is good for a whole overlay. Lower layers show something there, and a whiteout of
 -- the mounter hides it: each inode of the upper layer's tree is then that after the change by the definitions, but for what
--- had the name, which goes if nothing uses it.
+-- had the name and what was in it, which go if nothing uses them.
 abbrev pub NamesAreHidden : Type 0
 NamesAreHidden =
     (fresh : Fresh ℕ) (mounter : Credentials) (merge : Merge ℕ) (trees promised : Filesystems) (upper : LayerRef)
@@ -39,9 +39,9 @@ NamesAreHidden =
     → IsAskedWell (stack_of trees upper lowers mounter) merge (Remove directory name removed)
     → is_shown_below trees upper lowers (path ++ name ∷ []) ≡ true
     → IsPlaceReady place name promised births room
-    → (new : IsNewMade place (row_in_place place name (whiteout_of mounter)) promised births after births_after white)
+    → (new : IsNewMade place (made_in_place place name (whiteout_of mounter)) promised births after births_after white)
     → IsPlaceAt (evens fresh) trees upper lowers overlay path new.made.made place → inode_of white ≡ odds fresh 0
-    → (inode : ℕ) → white_in place ≢ Some inode
+    → (inode : ℕ) → LosesNoName merge.upper.tree (leaves_in place) inode
     → (files_at after (start_of place).filesystem.count).tree.node inode
     ≡ (changed_above fresh (stack_of trees upper lowers mounter) merge.upper (RemoveAt path name)).tree.node inode
 
@@ -61,6 +61,6 @@ NamesAreGone =
     → IsNameReady place name promised births room
     → (gone : IsNameGone place name promised births after births_after)
     → IsPlaceAt (evens fresh) trees upper lowers overlay path gone.made.made place
-    → (inode : ℕ) → white_in place ≢ Some inode
+    → (inode : ℕ) → LosesNoName merge.upper.tree (leaves_in place) inode
     → (files_at after (start_of place).filesystem.count).tree.node inode
     ≡ (changed_above fresh (stack_of trees upper lowers mounter) merge.upper (RemoveAt path name)).tree.node inode

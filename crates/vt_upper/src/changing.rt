@@ -1,5 +1,5 @@
 //! Changes of an object itself: open(2) for writing, chmod(2), chown(2), write(2).
-ghost use Rattle.std.specs.Prelude.{◌≡◌, ◌+◌, ◌-◌, IfOk, IsSome, OnErr, nat_eq};
+ghost use Rattle.std.specs.Prelude.{◌≡◌, ◌+◌, ◌-◌, ◌≤◌, IfOk, IsSome, OnErr, nat_eq};
 ghost use Rattle.vt_spec.specs.Inodes.{changed};
 ghost use Rattle.vt_spec.specs.Lists.{folded};
 ghost use Rattle.vt_copyup.specs.Plans.{CopiesAreThere, IsReady, many};
@@ -88,6 +88,7 @@ impl ChangePlan {
         ensures others { overlay.new ≡ record overlay.old {
           nodes = record overlay.old.nodes { births = overlay.new.nodes.births };
         } }
+        ensures room { room.old ≤ room.new }
         ensures err { OnErr result (trees.new ≡ trees.old) }
         ensures err_overlay { OnErr result (overlay.new ≡ overlay.old) }
     {

@@ -34,6 +34,7 @@ pub(crate) fn plan_copies(
     ensures copies { IfOk result (AreCopiesOf with_bytes trees.now overlay.now object) }
     ensures filesystem { IfOk result (λ plan. plan.directory.filesystem.count ≡ upper_count overlay.now) }
     ensures small { IfOk result (λ plan. is_small_node object ≡ true) }
+    ensures room { room.old ≤ room.new }
     ensures ready { (inodes more : ℕ) → CopiesAreThere trees.now (upper_count overlay.now) overlay.now.nodes.births
         → IfOk result (λ plan. many plan ≤ inodes → many plan ≤ more → IsReady plan
         (with_changed plan.directory.filesystem.count (promising inodes) trees.now)

@@ -1,4 +1,5 @@
 //! Laws of plans.
+ghost use Rattle.vt_upper.specs.CopyLaws.{CopiesStay, CopiesStayHidden};
 ghost use Rattle.vt_upper.specs.KeptLaws.{KeptChangesAboveAreMade, KeptChangesBelowAreMade};
 ghost use Rattle.vt_upper.specs.Laws.{ChangesAboveAreMade, ChangesBelowAreMade};
 ghost use Rattle.vt_upper.specs.NewLaws.{NewObjectsAreMade};
@@ -25,10 +26,9 @@ pub fn kept_changes_are_made()
 {}
 
 /// What a plan makes of the upper layer's tree for a new object is what the definitions' change makes of it, but for the
-/// whiteout that had the name, which goes, if the object's number is new in the tree.
+/// whiteout that had the name, which goes if nothing uses it.
 ///
-/// Copies and the object have the numbers that are handed out. The number is not new where the whiteout had no other use:
-/// its slot is then free, and taken again.
+/// Copies and the object have the numbers that are handed out. The object's slot was free before, so its number is new.
 pub fn new_objects_are_made()
     ensures { NewObjectsAreMade }
 {
@@ -36,13 +36,22 @@ pub fn new_objects_are_made()
 }
 
 /// What a plan makes of the upper layer's tree where it removes a name is what the definitions' change makes of it, but for
-/// what had the name, which goes if nothing uses it: a whiteout whose number is new in the tree hides what lower layers
-/// show there (`hidden`), or they show nothing (`gone`).
+/// what had the name and what was in it, which go if nothing uses them: a whiteout hides what lower layers show there
+/// (`hidden`), or they show nothing (`gone`).
 ///
-/// Copies and the whiteout have the numbers that are handed out. What has the name in the upper layer has no entries.
+/// Copies and the whiteout have the numbers that are handed out. The whiteout's slot was free before, so its number is new.
 pub fn removals_are_made()
     ensures hidden { NamesAreHidden }
     ensures gone { NamesAreGone }
 {
     changes_of_overlays_are_rows();
 }
+
+/// Where a name is removed and the node that had it is forgotten, each copy that has a birth is there still: a whiteout
+/// gets the name (`hidden`), or nothing (`gone`).
+///
+/// Of what loses a name none is a copy, but what had it may be that of the node.
+pub fn removals_keep_copies()
+    ensures hidden { CopiesStayHidden }
+    ensures gone { CopiesStay }
+{}

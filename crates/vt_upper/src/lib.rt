@@ -6,12 +6,17 @@ mod changing;
 mod copying;
 mod keeping;
 mod laws;
+mod leaving;
+mod losing;
 mod lowers;
 mod making;
 mod removing;
 
 pub use changing::{ChangePlan, ObjectChange};
 pub use keeping::KeptChangePlan;
-pub use laws::{changes_are_made, kept_changes_are_made, new_objects_are_made, removals_are_made};
+pub use laws::{
+    changes_are_made, kept_changes_are_made, new_objects_are_made, removals_are_made,
+    removals_keep_copies,
+};
+pub use losing::{Losing, RemovalPlan, RemovedName};
 pub use making::{NamedNode, NewPlan};
-pub use removing::RemovalPlan;

@@ -1,10 +1,11 @@
 //! New objects: mkdir(2), symlink(2), open(2) with O_CREAT. A whiteout in their place goes: the kernel's overlayfs document,
 //! "whiteouts and opaque directories".
-ghost use Rattle.std.specs.Prelude.{◌≡◌, ◌+◌, ◌++◌, ◌<◌, ◌≤◌, ◌∷◌, ◌-◌, [], IfOk, IfSome, List, OnErr, Some, false, length, nat_eq, option_map, ℕ};
+ghost use Rattle.std.specs.FinMap.Entries.{is_sorted};
+ghost use Rattle.std.specs.Prelude.{◌≡◌, ◌+◌, ◌++◌, ◌<◌, ◌≤◌, ◌∷◌, ◌-◌, [], IfOk, IfSome, List, OnErr, Some, false, length, nat_eq, option_map, true, ℕ};
 ghost use Rattle.vt_spec.specs.Inodes.{changed};
 ghost use Rattle.vt_spec.specs.Language.Changes.Change.{Make};
 ghost use Rattle.vt_spec.specs.Lists.{folded};
-ghost use Rattle.vt_spec.specs.Tree.{entries_in};
+ghost use Rattle.vt_spec.specs.Tree.{entries_in, name_cmp};
 ghost use Rattle.vt_spec.specs.TreeInvariant.{entry_at};
 ghost use Rattle.vt_copyup.specs.Plans.{CopiesAreThere, EntriesAreThere};
 ghost use Rattle.vt_fs.specs.FilesystemsValue.{ChangesInodes, files_at, giving_back, inodes_at, inodes_promised, promising, with_changed};
@@ -15,9 +16,11 @@ ghost use Rattle.vt_overlay.specs.declared.merge.layers.LayerRef.{LayerRef as La
 ghost use Rattle.vt_upper.specs.Below.{is_directory_below};
 ghost use Rattle.vt_upper_overlay.specs.MergedAbove.{directory_path, upper_count};
 ghost use Rattle.vt_upper_overlay.specs.Standing.{StandsAbove};
-ghost use Rattle.vt_upper.specs.New.{HasName, IsCopiedFrom, IsEmptyNode, IsLeft, IsNameGone, IsNameReady, IsNewMade, IsPlaceOf, IsPlaceReady, MayMakeIn, MayPutIn, many_in, row_in_place, row_new, start_of};
+ghost use Rattle.vt_upper.specs.Leaving.{gone_from, made_over, within_of};
+ghost use Rattle.vt_upper.specs.New.{HasName, IsCopiedFrom, IsEmptyNode, IsKnown, IsNameGone, IsNameReady, IsNewMade, IsPlaceOf, IsPlaceReady, MayMakeIn, MayPutIn, had_in, keeping, made_in_place, made_new, many_in, object_in, start_of};
 
 use crate::copying::plan_copies;
+use crate::leaving::{Leaving, entry_of};
 use crate::lowers::directory_below;
 use std::alloc::{AllocError, Global};
 use vt_births::Births;
@@ -25,7 +28,6 @@ use vt_copyup::{CopiedNode, Plan, give_back, promise};
 use vt_fs::Filesystems;
 use vt_location::{FilesystemId, InodeRef, NodeRef};
 use vt_node::EntryRoom;
-use vt_overlay::{MergedDirectory, entry_in};
 use vt_upper_overlay::UpperOverlay;
 
 /// An inode, and the name that it gets.
@@ -35,19 +37,78 @@ pub struct NamedNode {
     pub node: CopiedNode,
 }
 
+// A directory that is there, and what has a name in it, if anything has.
+#[derive(Debug, Drop)]
+pub(crate) struct Spot {
+    directory: InodeRef,
+    leaving: Option<Leaving>,
+    // It is kept when it loses the name, since it is in use.
+    keeps: bool,
+}
+
+impl Spot {
+    // Makes an inode in the place of what has the name. It does not allocate.
+    fn make(
+        self,
+        alloc: Global,
+        trees: &mut Filesystems,
+        room: &mut EntryRoom,
+        object: NamedNode,
+    ) -> InodeRef
+        requires name { HasName trees.old self object.name.items }
+        requires promised { 0 < inodes_promised trees.old self.directory.filesystem.count }
+        requires room { length (entries_in ((files_at trees.old self.directory.filesystem.count).tree.node
+            (inode_of self.directory))) < room.old }
+        ensures made { ChangesInodes self.directory.filesystem.count
+            (made_over self.keeps object.name.items (copy_node (inode_of self.directory) object.node) (had_in self)
+            (within_of (files_at trees.old self.directory.filesystem.count).tree (had_in self))
+            (inode_of self.directory) (inode_of result)) trees.old trees.new }
+        ensures vacant { (files_at trees.old self.directory.filesystem.count).tree.node (inode_of result) ≡ None }
+        ensures filesystem { result.filesystem ≡ self.directory.filesystem }
+    {
+        let Spot {
+            directory,
+            leaving,
+            keeps,
+        } = self;
+        let NamedNode { name, node } = object;
+        let Some(leaving) = leaving else {
+            return node.make(alloc, trees, directory, name, room);
+        };
+        leaving.free(trees, directory, &name);
+        let made = node.make(alloc, trees, directory, name, room);
+        leaving.let_go(trees, keeps);
+        made
+    }
+
+    // Removes the name. It does not allocate.
+    fn leave(self, trees: &mut Filesystems, name: &[u8])
+        requires { HasName trees.old self name.now }
+        ensures { ChangesInodes self.directory.filesystem.count
+            (gone_from self.keeps name.now (had_in self)
+            (within_of (files_at trees.old self.directory.filesystem.count).tree (had_in self))
+            (inode_of self.directory)) trees.old trees.new }
+    {
+        let Spot {
+            directory,
+            leaving,
+            keeps,
+        } = self;
+        let Some(leaving) = leaving else {
+            return;
+        };
+        leaving.free(trees, directory, name);
+        leaving.let_go(trees, keeps);
+    }
+}
+
 // The directory of the upper layer in which an inode is made.
 #[derive(Debug, Drop)]
 pub(crate) enum Place {
-    // It is there, and this whiteout has the name, if anything has it.
-    There {
-        directory: InodeRef,
-        white: Option<InodeRef>,
-    },
+    // It is there.
+    There { spot: Spot },
     // It is copied first, and has room for the name.
-    Copied {
-        copies: Plan,
-        room: EntryRoom,
-    },
+    Copied { copies: Plan, room: EntryRoom },
 }
 
 impl Place {
@@ -66,12 +127,35 @@ impl Place {
         ensures { result ≡ (start_of self.now).filesystem }
     {
         match self {
-            Place::There { directory, .. } => directory.filesystem,
+            Place::There { spot } => spot.directory.filesystem,
             Place::Copied { copies, .. } => copies.filesystem(),
         }
     }
 
-    // Makes the directory's copy if need be, and then the inode, in the place of a whiteout. It does not allocate.
+    // The same place, where what has the name is kept, or is not.
+    pub(crate) fn keeping(self, keeps: bool) -> Place
+        ensures { result ≡ keeping keeps self }
+    {
+        match self {
+            Place::There { spot } => {
+                let Spot {
+                    directory,
+                    leaving,
+                    keeps: _was,
+                } = spot;
+                Place::There {
+                    spot: Spot {
+                        directory,
+                        leaving,
+                        keeps,
+                    },
+                }
+            }
+            Place::Copied { copies, room } => Place::Copied { copies, room },
+        }
+    }
+
+    // Makes the directory's copy if need be, and then the inode, in the place of what has its name. It does not allocate.
     pub(crate) fn make(
         self,
         alloc: Global,
@@ -81,13 +165,11 @@ impl Place {
         object: NamedNode,
     ) -> InodeRef
         requires { IsPlaceReady self object.name.items trees.old births.old room.old }
-        ensures { IsNewMade self (row_in_place self object.name.items object.node) trees.old births.old trees.new
+        ensures { IsNewMade self (made_in_place self object.name.items object.node) trees.old births.old trees.new
             births.new result }
     {
         match self {
-            Place::There { directory, white } => {
-                make_there(alloc, trees, room, directory, white, object)
-            }
+            Place::There { spot } => spot.make(alloc, trees, room, object),
             Place::Copied { copies, room: own } => {
                 let directory = copies.apply(alloc, trees, births, room);
                 make_in_copy(alloc, trees, directory, own, object)
@@ -108,7 +190,7 @@ impl Place {
         ensures { IsNameGone self name.now trees.old births.old trees.new births.new }
     {
         match self {
-            Place::There { directory, white } => free_name(trees, directory, name, white),
+            Place::There { spot } => spot.leave(trees, name),
             Place::Copied { copies, room: _own } => {
                 copies.apply(alloc, trees, births, room);
             }
@@ -130,6 +212,7 @@ pub(crate) fn place_for(
     requires may_put { MayPutIn trees.now overlay.now directory name.now }
     ensures place { IfOk result (IsPlaceOf trees.now overlay.now directory) }
     ensures filesystem { IfOk result (λ place. (start_of place).filesystem.count ≡ upper_count overlay.now) }
+    ensures room { room.old ≤ room.new }
     ensures ready { (inodes more : ℕ) → CopiesAreThere trees.now (upper_count overlay.now) overlay.now.nodes.births
         → IfOk result (λ place. many_in place < inodes → many_in place ≤ more → IsPlaceReady place name.now
         (with_changed (start_of place).filesystem.count (promising inodes) trees.now)
@@ -143,12 +226,36 @@ pub(crate) fn place_for(
     if copies.len() == 0 {
         let above = copies.directory();
         trees.make_room(above.node_ref(), 1, room)?;
+        let leaving = leaving_from(alloc, trees, above, name)?;
         return Ok(Place::There {
-            directory: above,
-            white: entry_of(trees, above, name),
+            spot: Spot {
+                directory: above,
+                leaving,
+                keeps: false,
+            },
         });
     }
     place_in_copy(alloc, copies)
+}
+
+// What has a name in a directory of a plain tree, if anything has, with all that is in it.
+fn leaving_from(
+    alloc: Global,
+    trees: &Filesystems,
+    directory: InodeRef,
+    name: &[u8],
+) -> Result<Option<Leaving>, AllocError>
+    requires order { (number : ℕ) → is_sorted name_cmp (entries_in
+        ((files_at trees.now directory.filesystem.count).tree.node number)) ≡ true }
+    ensures leads { IfOk result (λ leaving. option_map object_in leaving
+        ≡ entry_at (files_at trees.now directory.filesystem.count).tree (inode_of directory) name.now) }
+    ensures known { IfOk result (λ leaving. IfSome leaving (IsKnown trees.now directory)) }
+{
+    let Some(object) = entry_of(trees, directory, name) else {
+        return Ok(None);
+    };
+    let leaving = Leaving::of(alloc, trees, object)?;
+    Ok(Some(leaving))
 }
 
 // The last copy, with room for one name.
@@ -158,20 +265,6 @@ fn place_in_copy(alloc: Global, copies: Plan) -> Result<Place, AllocError>
     let mut room = EntryRoom::new(alloc);
     room.reserve(1)?;
     Ok(Place::Copied { copies, room })
-}
-
-// What has a name in a directory of a plain tree.
-fn entry_of(trees: &Filesystems, directory: InodeRef, name: &[u8]) -> Option<InodeRef>
-    ensures leads { option_map inode_of result
-        ≡ entry_at (files_at trees.now directory.filesystem.count).tree (inode_of directory) name.now }
-    ensures filesystem { IfSome result (λ white. white.filesystem ≡ directory.filesystem) }
-{
-    let above = MergedDirectory {
-        layer: 0,
-        directory,
-    };
-    let found = entry_in(trees, above, name)?;
-    Some(found.object)
 }
 
 // Whether lower layers show a directory under a name of a directory, which a new one must hide.
@@ -194,46 +287,6 @@ fn hides_directory(
     directory_below(trees, overlay.layers(), &way.under(name))
 }
 
-// Makes an inode in a directory that is there, in the place of a whiteout. It does not allocate.
-fn make_there(
-    alloc: Global,
-    trees: &mut Filesystems,
-    room: &mut EntryRoom,
-    directory: InodeRef,
-    white: Option<InodeRef>,
-    object: NamedNode,
-) -> InodeRef
-    requires name { HasName (files_at trees.old directory.filesystem.count).tree directory
-        object.name.items white }
-    requires left { IsLeft (inodes_at trees.old directory.filesystem.count) directory object.name.items white }
-    requires promised { 0 < inodes_promised trees.old directory.filesystem.count }
-    requires room { length (entries_in
-        ((files_at trees.old directory.filesystem.count).tree.node (inode_of directory))) < room.old }
-    ensures row { ChangesInodes directory.filesystem.count (λ inodes. folded (changed nat_eq) inodes
-        (removal (inode_of directory) object.name.items (option_map inode_of white)
-        ++ (Make (inode_of directory) object.name.items (inode_of result)
-        (copy_node (inode_of directory) object.node) ∷ []))) trees.old trees.new }
-    ensures filesystem { result.filesystem ≡ directory.filesystem }
-    ensures apart { nat_eq (inode_of directory) (inode_of result) ≡ false }
-{
-    let NamedNode { name, node } = object;
-    free_name(trees, directory, &name, white);
-    node.make(alloc, trees, directory, name, room)
-}
-
-// Removes the name of a whiteout, if one has it. It does not allocate.
-fn free_name(trees: &mut Filesystems, directory: InodeRef, name: &[u8], white: Option<InodeRef>)
-    requires { HasName (files_at trees.old directory.filesystem.count).tree directory name.now white }
-    ensures row { ChangesInodes directory.filesystem.count (λ inodes. folded (changed nat_eq) inodes
-        (removal (inode_of directory) name.now (option_map inode_of white))) trees.old trees.new }
-    ensures promised { inodes_promised trees.new directory.filesystem.count
-        ≡ inodes_promised trees.old directory.filesystem.count }
-{
-    if let Some(white) = white {
-        trees.unlink_promised(directory.node_ref(), name, white.node_ref());
-    }
-}
-
 // Makes an inode in a copy of a directory, which has room for its name. It does not allocate.
 fn make_in_copy(
     alloc: Global,
@@ -250,7 +303,7 @@ fn make_in_copy(
         (Make (inode_of directory) object.name.items (inode_of result)
         (copy_node (inode_of directory) object.node))) trees.old trees.new }
     ensures filesystem { result.filesystem ≡ directory.filesystem }
-    ensures apart { nat_eq (inode_of directory) (inode_of result) ≡ false }
+    ensures vacant { (files_at trees.old directory.filesystem.count).tree.node (inode_of result) ≡ None }
 {
     let NamedNode { name, node } = object;
     let mut room = room;
@@ -280,7 +333,7 @@ pub struct NewPlan {
 
 impl NewPlan {
     /// Plans a new object in a directory that is shown, and shows nothing under the name. Nothing changes that anyone sees.
-    /// It fails only if an allocation does.
+    /// It fails if an allocation does, or if a whiteout of the name has 2^64 - 1 uses.
     pub fn new(
         alloc: Global,
         trees: &mut Filesystems,
@@ -310,6 +363,7 @@ impl NewPlan {
         ensures others { overlay.new ≡ record overlay.old {
           nodes = record overlay.old.nodes { births = overlay.new.nodes.births };
         } }
+        ensures room { room.old ≤ room.new }
         ensures err { OnErr result (trees.new ≡ trees.old) }
         ensures err_overlay { OnErr result (overlay.new ≡ overlay.old) }
     {
@@ -343,7 +397,7 @@ impl NewPlan {
         room: &mut EntryRoom,
     ) -> InodeRef
         requires { IsPlaceReady self.place self.object.name.items trees.old overlay.old.nodes.births room.old }
-        ensures made { IsNewMade self.place (row_new self.place self.object.name.items self.object.node self.opaque)
+        ensures made { IsNewMade self.place (made_new self.place self.object.name.items self.object.node self.opaque)
             trees.old overlay.old.nodes.births trees.new overlay.new.nodes.births result }
         ensures others { overlay.new ≡ record overlay.old {
           nodes = record overlay.old.nodes { births = overlay.new.nodes.births };

@@ -1,13 +1,13 @@
 //! Names that are removed: unlink(2), rmdir(2). A whiteout hides what lower layers show there: the kernel's overlayfs
 //! document, "whiteouts and opaque directories".
-ghost use Rattle.std.specs.Prelude.{◌≡◌, ◌+◌, ◌++◌, ◌-◌, ◌∷◌, [], IfOk, IfSome, List, OnErr, Some, ℕ};
+ghost use Rattle.std.specs.Prelude.{◌≡◌, ◌+◌, ◌++◌, ◌-◌, ◌≤◌, ◌∷◌, [], IfOk, IfSome, List, OnErr, Some, ℕ};
 ghost use Rattle.vt_spec.specs.Machine.CopyUp.{whiteout_of};
 ghost use Rattle.vt_copyup.specs.Plans.{CopiesAreThere};
 ghost use Rattle.vt_fs.specs.FilesystemsValue.{giving_back, promising, with_changed};
 ghost use Rattle.vt_location.specs.Locations.{number_of};
 ghost use Rattle.vt_overlay.specs.declared.merge.layers.LayerRef.{LayerRef as Layer};
 ghost use Rattle.vt_upper.specs.Below.{is_shown_below};
-ghost use Rattle.vt_upper.specs.New.{IsPlaceOf, IsRemovalReady, IsRemoved, MayPutIn, many_in, one_if, start_of};
+ghost use Rattle.vt_upper.specs.New.{IsPlaceOf, IsRemovalReady, IsRemoved, MayRemoveFrom, keeping, many_in, one_if, start_of};
 ghost use Rattle.vt_upper_overlay.specs.MergedAbove.{directory_path, upper_count};
 ghost use Rattle.vt_upper_overlay.specs.Standing.{StandsAbove};
 
@@ -20,10 +20,10 @@ use vt_location::NodeRef;
 use vt_node::{Attr, EntryRoom, Mode};
 use vt_upper_overlay::UpperOverlay;
 
-/// A name that is removed, with the copies that its directory needs. It owns all memory that they take; inodes and births
-/// are promised to it. It must be applied or given back.
+// A name that is removed, with the copies that its directory needs. It owns all memory that they take; inodes and births
+// are promised to it.
 #[derive(Debug)]
-pub struct RemovalPlan {
+pub(crate) struct NameRemoval {
     place: Place,
     // The name, and the whiteout that gets it.
     white: NamedNode,
@@ -31,23 +31,22 @@ pub struct RemovalPlan {
     hidden: bool,
 }
 
-impl RemovalPlan {
-    /// Plans the removal of a name from a directory that is shown. What has the name in the upper layer has no entries
-    /// there. The whiteout is made only if it has to hide something. Nothing changes that anyone sees. It fails only if an
-    /// allocation does.
-    pub fn new(
+impl NameRemoval {
+    // Plans the removal. What has the name is not kept.
+    pub(crate) fn new(
         alloc: Global,
         trees: &mut Filesystems,
         overlay: &mut UpperOverlay,
         room: &mut EntryRoom,
         directory: NodeRef,
         name: Vec<u8>,
-    ) -> Result<RemovalPlan, AllocError>
+    ) -> Result<NameRemoval, AllocError>
         requires standing { StandsAbove trees.old overlay.old }
         requires own { directory.filesystem ≡ overlay.old.layers.number }
         requires there { CopiesAreThere trees.old (upper_count overlay.old) overlay.old.nodes.births }
-        requires may_remove { MayPutIn trees.old overlay.old directory name.items }
+        requires may_remove { MayRemoveFrom trees.old overlay.old directory name.items }
         ensures place { IfOk result (λ plan. IsPlaceOf trees.old overlay.old directory plan.place) }
+        ensures filesystem { IfOk result (λ plan. (start_of plan.place).filesystem.count ≡ upper_count overlay.old) }
         ensures name { IfOk result (λ plan. plan.white.name ≡ name) }
         ensures white { IfOk result (λ plan. plan.white.node ≡ whiteout_of overlay.old.layers.mounter) }
         ensures hidden { IfOk result (λ plan. (path : List (List ℕ)) (upper : Layer) (lowers : List Layer)
@@ -65,6 +64,7 @@ impl RemovalPlan {
         ensures others { overlay.new ≡ record overlay.old {
           nodes = record overlay.old.nodes { births = overlay.new.nodes.births };
         } }
+        ensures room { room.old ≤ room.new }
         ensures err { OnErr result (trees.new ≡ trees.old) }
         ensures err_overlay { OnErr result (overlay.new ≡ overlay.old) }
     {
@@ -81,16 +81,32 @@ impl RemovalPlan {
             inodes,
             copies,
         )?;
-        Ok(RemovalPlan {
+        Ok(NameRemoval {
             place,
             white: white_under(overlay, name),
             hidden,
         })
     }
 
-    /// Makes the copies, with their births, and then removes the name, which a whiteout gets if it has to. It does not
-    /// allocate.
-    pub fn apply(
+    // The same removal, where what has the name is kept, or is not.
+    pub(crate) fn keeping(self, keeps: bool) -> NameRemoval
+        ensures { result ≡ record self { place = keeping keeps self.place } }
+    {
+        let NameRemoval {
+            place,
+            white,
+            hidden,
+        } = self;
+        NameRemoval {
+            place: place.keeping(keeps),
+            white,
+            hidden,
+        }
+    }
+
+    // Makes the copies, with their births, and then removes the name, which a whiteout gets if it has to. It does not
+    // allocate.
+    pub(crate) fn apply(
         self,
         alloc: Global,
         trees: &mut Filesystems,
@@ -105,7 +121,7 @@ impl RemovalPlan {
           nodes = record overlay.old.nodes { births = overlay.new.nodes.births };
         } }
     {
-        let RemovalPlan {
+        let NameRemoval {
             place,
             white,
             hidden,
@@ -117,8 +133,8 @@ impl RemovalPlan {
         place.leave(alloc, trees, &mut overlay.nodes.births, room, &white.name);
     }
 
-    /// Gives back what was promised: nothing changes. It does not allocate.
-    pub fn give_back(self, trees: &mut Filesystems, overlay: &mut UpperOverlay)
+    // Gives back what was promised: nothing changes. It does not allocate.
+    pub(crate) fn give_back(self, trees: &mut Filesystems, overlay: &mut UpperOverlay)
         ensures trees { trees.new ≡ with_changed (start_of self.place).filesystem.count
             (giving_back (many_in self.place + one_if self.hidden)) trees.old }
         ensures overlay { overlay.new ≡ record overlay.old {
@@ -129,7 +145,7 @@ impl RemovalPlan {
           };
         } }
     {
-        let RemovalPlan {
+        let NameRemoval {
             place,
             white: _white,
             hidden,

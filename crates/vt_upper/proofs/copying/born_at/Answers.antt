@@ -1,5 +1,5 @@
 use Rattle.std.proofs.Common.{ap, arith, IsSome, None, option_copied, option_map, rules, Some, slice_get, subst, sym, ℕ, ◌+◌, ◌≡◌, ◌≢◌, ◌∙◌, ◌++◌, ◌∷◌, []}
-use Rattle.vt_spec.proofs.Common.{Node, none_is_some, same_Some, shown}
+use Rattle.vt_spec.proofs.Common.{none_is_some, same_Some, shown}
 use Rattle.vt_location.specs.declared.locations.NodeRef.{NodeRef}
 use Rattle.vt_location.specs.Locations.{number_of}
 use Rattle.vt_location.specs.Numbers.{inode_number}

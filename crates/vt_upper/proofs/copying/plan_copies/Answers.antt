@@ -1,4 +1,4 @@
-use Rattle.std.proofs.Common.{ap, arith, false, IfOk, is_some, None, rules, slice_get, Some, subst, sym, true, true≢false, ◌+◌, ◌≡◌, ◌≤◌, ◌∙◌, ◌++◌, ◌∷◌, []}
+use Rattle.std.proofs.Common.{ap, IfOk, is_some, rules, slice_get, subst, sym, true≢false, ◌≡◌, ◌∙◌, ◌++◌, ◌∷◌, []}
 use Rattle.vt_location.proofs.NodeLemmas.{small_parts}
 use Rattle.vt_copyup.specs.Planned.{AreBirthsOf, IsPlanOf}
 use Rattle.vt_upper.specs.Copies.AreCopiesOf.{is_above}

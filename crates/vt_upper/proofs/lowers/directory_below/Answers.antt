@@ -1,6 +1,5 @@
-use Rattle.std.proofs.Common.{rules, ◌≡◌, ◌∙◌, ◌∷◌, None, Some, ap, drop, false, List, option_map, slice_get, subst, sym, true, ℕ}
-use Rattle.vt_spec.proofs.Common.{Shown, cuts, same_Some, shown, view_of, without_last}
-use Rattle.vt_spec.specs.Machine.CopyUp.{is_directory_shown}
+use Rattle.std.proofs.Common.{rules, ◌≡◌, ◌∙◌, None, Some, ap, drop, false, option_map, slice_get, sym, true}
+use Rattle.vt_spec.proofs.Common.{cuts, same_Some, shown, view_of, without_last}
 use Rattle.vt_overlay.specs.declared.merge.layers.LayerRef.{LayerRef}
 use Rattle.vt_overlay.specs.Merge.LayerValue.{layer_of, layers_of, seen_of}
 use Rattle.vt_upper.proofs.LowersShown.{below_cut, below_seen, real_kind}

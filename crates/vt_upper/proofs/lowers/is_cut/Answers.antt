@@ -1,12 +1,10 @@
-use Rattle.std.proofs.Common.{rules, ◌≡◌, ◌∙◌, ◌+◌, ◌≤◌, ◌||◌, None, Some, ap, drop, false, length, subst, sym, true}
-use Rattle.vt_spec.proofs.Common.{drop_all, entry_at, hides}
+use Rattle.std.proofs.Common.{rules, ◌≡◌, ◌∙◌, ◌+◌, ◌≤◌, ◌||◌, ap, drop, false, length, subst, sym, true}
+use Rattle.vt_spec.proofs.Common.{drop_all, hides}
 use Rattle.vt_fs.specs.FilesystemsValue.{files_at}
-use Rattle.vt_location.specs.declared.locations.InodeRef.{InodeRef}
 use Rattle.vt_location.specs.declared.numbers.FilesystemId.{FilesystemId}
 use Rattle.vt_location.specs.Locations.{inode_of}
 use Rattle.vt_overlay.specs.declared.merge.layers.LayerEntry.{LayerEntry}
-use Rattle.vt_overlay.specs.declared.merge.layers.MergedDirectory.{MergedDirectory}
-use Rattle.vt_overlay.specs.Merge.LayerValue.{cut_on, opened}
+use Rattle.vt_overlay.specs.Merge.LayerValue.{cut_on}
 use Rattle.vt_upper.proofs.CutsFollowed.{cuts_on, goes_on_cut, stops_cut}
 use Rattle.vt_upper.proofs.CutsAlong.{found_at, is_beside, nothing_at}
 use Rattle.vt_upper.proofs.lowers.is_cut.Goals as goal

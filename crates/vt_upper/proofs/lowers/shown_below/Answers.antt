@@ -1,4 +1,4 @@
-use Rattle.std.proofs.Common.{rules, ◌≡◌, ◌∙◌, ◌∷◌, Some, ap, drop, false, is_some, List, option_map, slice_get, sym, true, ℕ}
+use Rattle.std.proofs.Common.{rules, ◌≡◌, ◌∙◌, ap, drop, false, option_map, slice_get, sym, true}
 use Rattle.vt_spec.proofs.Common.{cuts, same_Some, shown, view_of, without_last}
 use Rattle.vt_overlay.specs.declared.merge.layers.LayerRef.{LayerRef}
 use Rattle.vt_overlay.specs.Merge.LayerValue.{layer_of, layers_of, seen_of}

@@ -1,4 +1,4 @@
-use Rattle.std.proofs.Common.{◌≡◌, ◌∙◌, ◌++◌, ◌<◌, ◌∷◌, [], ap, length, List, None, option_map, Some, subst, sym, ℕ}
+use Rattle.std.proofs.Common.{◌∙◌, ◌++◌, ◌<◌, ◌∷◌, [], ap, length, subst, sym}
 use Rattle.vt_spec.proofs.Common.{none_is_some, same_Some}
 use Rattle.vt_upper.specs.Below.{is_directory_below}
 use Rattle.vt_upper.proofs.making.hides_directory.Goals as goal

@@ -1,8 +1,5 @@
-use Rattle.std.proofs.Common.{ap, arith, length, subst, sym, ℕ, ◌<◌, ◌∙◌, ◌≡◌}
+use Rattle.std.proofs.Common.{ap, arith, length}
 use Rattle.vt_spec.proofs.Common.{entry_named}
-use Rattle.vt_fs.specs.FilesystemsValue.{files_at}
-use Rattle.vt_location.specs.Locations.{inode_of}
-use Rattle.vt_upper.proofs.Freed.{apart_by}
 use Rattle.vt_upper.proofs.making.make_in_copy.Goals as goal
 
 pub make-requires-clause-directory : goal.make-requires-clause-directory
@@ -15,7 +12,3 @@ pub make-requires-clause-room : goal.make-requires-clause-room
 make-requires-clause-room c =
     let none = ap length c.requires.directory.1 in
     let room = c.requires.room in omega (arith, none, room)
-
-pub returns-clause-apart : goal.returns-clause-apart
-returns-clause-apart c = apart_by (files_at c.args.trees.now c.args.directory.filesystem.count).tree
-    (inode_of c.args.directory) (inode_of c.make.result) c.requires.directory.0 c.make.ensures.vacant

@@ -1,4 +1,4 @@
-use Rattle.std.proofs.Common.{false, nat_eq, rules, subst, sym, true, ℕ, ◌≡◌}
+use Rattle.std.proofs.Common.{false, nat_eq, rules, subst, sym, true, ◌≡◌}
 use Rattle.vt_spec.specs.Inodes.{changed}
 use Rattle.vt_spec.specs.Language.Changes.Change.{SetMark}
 use Rattle.vt_spec.specs.Lists.{folded}

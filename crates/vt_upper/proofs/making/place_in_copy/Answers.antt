@@ -1,4 +1,4 @@
-use Rattle.std.proofs.Common.{arith, refl, ◌<◌, ◌≤◌, ◌≡◌}
+use Rattle.std.proofs.Common.{arith, refl}
 use Rattle.vt_upper.proofs.making.place_in_copy.Goals as goal
 
 pub returns : goal.returns

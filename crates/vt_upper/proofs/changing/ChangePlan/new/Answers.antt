@@ -1,5 +1,4 @@
 use Rattle.std.proofs.Common.{ap, arith, subst, sym, ◌+◌, ◌≡◌, ◌≤◌, ◌∙◌}
-use Rattle.vt_births.specs.Births.{BirthsValue}
 use Rattle.vt_copyup.specs.Plans.{IsReady, many}
 use Rattle.vt_copyup.proofs.Changed.{promised_files}
 use Rattle.vt_fs.specs.FilesystemsValue.{files_at, promising, with_changed}

@@ -1,4 +1,4 @@
-use Rattle.std.proofs.Common.{nat_eq, subst, sym, ◌∙◌, ◌≡◌}
+use Rattle.std.proofs.Common.{nat_eq, subst, ◌∙◌}
 use Rattle.vt_spec.specs.Inodes.{changed}
 use Rattle.vt_spec.specs.Lists.{folded}
 use Rattle.vt_fs.specs.FilesystemsValue.{ChangesInodes}

@@ -1,7 +1,7 @@
-use Rattle.std.proofs.Common.{ap, subst, sym, ◌+◌, ◌∙◌, ◌≡◌}
+use Rattle.std.proofs.Common.{ap, subst, sym, ◌+◌, ◌∙◌}
 use Rattle.vt_fs.specs.FilesystemsValue.{promising, with_changed}
 use Rattle.vt_upper.specs.Changes.{IsFit}
-use Rattle.vt_upper.specs.KeptChanges.{IsCopyOfKept, IsKeptFit, IsKeptReady}
+use Rattle.vt_upper.specs.KeptChanges.{IsKeptFit, IsKeptReady}
 use Rattle.vt_upper.proofs.KeptReady.{in_upper, kept_fit, kept_ready, upper_count_is}
 use Rattle.vt_upper_overlay.specs.MergedAbove.{upper_count}
 use Rattle.vt_upper.proofs.keeping.KeptChangePlan.new.Goals as goal

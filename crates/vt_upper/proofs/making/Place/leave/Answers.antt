@@ -1,22 +1,25 @@
-use Rattle.std.proofs.Common.{None, nat_eq, subst, sym, ◌≡◌}
+use Rattle.std.proofs.Common.{subst, sym}
+use Rattle.vt_copyup.specs.Plans.{CopiesAreThere}
 use Rattle.vt_copyup.proofs.Changed.{nothing_changes}
 use Rattle.vt_copyup.proofs.Stepping.{none_made}
+use Rattle.vt_location.specs.declared.numbers.FilesystemId.{FilesystemId}
 use Rattle.vt_upper.specs.New.{IsNameGone, IsNameReady}
 use Rattle.vt_upper.proofs.making.Place.leave.Goals as goal
 
-pub free_name-requires : goal.free_name-requires
-free_name-requires c = subst (λ p. IsNameReady p c.args.name.now c.args.trees.now c.args.births.now c.args.room.now)
+pub leave-requires : goal.leave-requires
+leave-requires c = subst (λ p. IsNameReady p c.args.name.now c.args.trees.now c.args.births.now c.args.room.now)
     c.in-There.is c.requires
 
 pub returns-in-There : goal.returns-in-There
 returns-in-There c =
     subst (λ p. IsNameGone p c.args.name.now c.args.trees.now
-    c.args.births.now c.free_name.new.trees c.args.births.now) (sym c.in-There.is)
+    c.args.births.now c.leave.new.trees c.args.births.now) (sym c.in-There.is)
     (record {
       between = c.args.trees.now;
-      directory = c.in-There.directory;
-      made = none_made c.in-There.directory c.args.trees.now c.args.births.now;
-      removing = c.free_name.ensures.row;
+      directory = c.in-There.spot.directory;
+      made = none_made c.in-There.spot.directory c.args.trees.now c.args.births.now;
+      removing = c.leave.ensures;
+      there = λ copies. copies;
     })
 
 pub apply-requires : goal.apply-requires
@@ -33,4 +36,6 @@ returns-in-Copied c =
       directory = made.result;
       made = made.ensures.made;
       removing = nothing_changes c.in-Copied.copies.directory.filesystem.count made.new.trees;
+      there = λ copies. subst (λ (id : FilesystemId). CopiesAreThere made.new.trees id.count made.new.births)
+          made.ensures.filesystem made.ensures.there;
     })

@@ -1,42 +1,40 @@
-use Rattle.std.proofs.Common.{ap, arith, nat_eq, subst, sym, ℕ, ◌+◌, ◌<◌, ◌∙◌, ◌≡◌}
+use Rattle.std.proofs.Common.{ap, arith, nat_eq, subst, sym, ◌<◌, ◌∙◌}
 use Rattle.vt_spec.proofs.Common.{Make}
 use Rattle.vt_spec.specs.Inodes.{changed}
+use Rattle.vt_copyup.specs.Plans.{CopiesAreThere}
 use Rattle.vt_copyup.proofs.Stepping.{none_made}
 use Rattle.vt_fs.specs.FilesystemsValue.{ChangesInodes, files_at, inodes_promised}
 use Rattle.vt_laws_worlds.specs.Merging.UpperChanges.{copy_node}
 use Rattle.vt_location.specs.declared.numbers.FilesystemId.{FilesystemId}
 use Rattle.vt_location.specs.Locations.{inode_of}
-use Rattle.vt_upper.specs.New.{IsEmptyNode, IsNewMade, IsPlaceReady, row_in_place}
+use Rattle.vt_upper.specs.New.{IsEmptyNode, IsNewMade, IsPlaceReady, made_in_place}
 use Rattle.vt_upper.proofs.EmptyCopies.{empty_copy, many_copies}
 use Rattle.vt_upper.proofs.making.Place.make.Goals as goal
 
-pub make_there-requires-clause-name : goal.make_there-requires-clause-name
-make_there-requires-clause-name c = (subst (λ p. IsPlaceReady p c.args.object.name.items c.args.trees.now
-    c.args.births.now c.args.room.now) c.in-There.is c.requires).has_name
+pub make-requires-clause-name : goal.make-requires-clause-name
+make-requires-clause-name c = (subst (λ p. IsPlaceReady p c.args.object.name.items c.args.trees.now
+    c.args.births.now c.args.room.now) c.in-There.is c.requires).0
 
-pub make_there-requires-clause-left : goal.make_there-requires-clause-left
-make_there-requires-clause-left c = (subst (λ p. IsPlaceReady p c.args.object.name.items c.args.trees.now
-    c.args.births.now c.args.room.now) c.in-There.is c.requires).left
+pub make-requires-clause-promised : goal.make-requires-clause-promised
+make-requires-clause-promised c = (subst (λ p. IsPlaceReady p c.args.object.name.items c.args.trees.now
+    c.args.births.now c.args.room.now) c.in-There.is c.requires).1
 
-pub make_there-requires-clause-promised : goal.make_there-requires-clause-promised
-make_there-requires-clause-promised c = (subst (λ p. IsPlaceReady p c.args.object.name.items c.args.trees.now
-    c.args.births.now c.args.room.now) c.in-There.is c.requires).promised
-
-pub make_there-requires-clause-room : goal.make_there-requires-clause-room
-make_there-requires-clause-room c = (subst (λ p. IsPlaceReady p c.args.object.name.items c.args.trees.now
-    c.args.births.now c.args.room.now) c.in-There.is c.requires).has_room
+pub make-requires-clause-room : goal.make-requires-clause-room
+make-requires-clause-room c = (subst (λ p. IsPlaceReady p c.args.object.name.items c.args.trees.now
+    c.args.births.now c.args.room.now) c.in-There.is c.requires).2
 
 pub returns-in-There : goal.returns-in-There
 returns-in-There c =
-    subst (λ p. IsNewMade p (row_in_place p c.args.object.name.items c.args.object.node) c.args.trees.now
-    c.args.births.now c.make_there.new.trees c.args.births.now c.make_there.result) (sym c.in-There.is)
+    subst (λ p. IsNewMade p (made_in_place p c.args.object.name.items c.args.object.node) c.args.trees.now
+    c.args.births.now c.make.new.trees c.args.births.now c.make.result) (sym c.in-There.is)
     (record {
       between = c.args.trees.now;
-      directory = c.in-There.directory;
-      made = none_made c.in-There.directory c.args.trees.now c.args.births.now;
-      making = c.make_there.ensures.row;
-      filesystem = c.make_there.ensures.filesystem;
-      apart = c.make_there.ensures.apart;
+      directory = c.in-There.spot.directory;
+      made = none_made c.in-There.spot.directory c.args.trees.now c.args.births.now;
+      making = c.make.ensures.made;
+      there = λ copies. copies;
+      filesystem = c.make.ensures.filesystem;
+      vacant = c.make.ensures.vacant;
     })
 
 pub apply-directory-requires : goal.apply-directory-requires
@@ -70,7 +68,7 @@ pub returns-in-Copied : goal.returns-in-Copied
 returns-in-Copied c =
     let made = c.apply-directory in
     let d = inode_of made.result in
-    subst (λ p. IsNewMade p (row_in_place p c.args.object.name.items c.args.object.node) c.args.trees.now
+    subst (λ p. IsNewMade p (made_in_place p c.args.object.name.items c.args.object.node) c.args.trees.now
     c.args.births.now c.make_in_copy.new.trees made.new.births c.make_in_copy.result) (sym c.in-Copied.is)
     (record {
       between = made.new.trees;
@@ -79,6 +77,9 @@ returns-in-Copied c =
       making = subst (λ (id : FilesystemId). ChangesInodes id.count (λ inodes. changed nat_eq inodes
           (Make d c.args.object.name.items (inode_of c.make_in_copy.result) (copy_node d c.args.object.node)))
           made.new.trees c.make_in_copy.new.trees) made.ensures.filesystem c.make_in_copy.ensures.made;
+      there = λ copies. subst (λ (id : FilesystemId). CopiesAreThere made.new.trees id.count made.new.births)
+          made.ensures.filesystem made.ensures.there;
       filesystem = c.make_in_copy.ensures.filesystem ∙ made.ensures.filesystem;
-      apart = c.make_in_copy.ensures.apart;
+      vacant = ap (λ (id : FilesystemId). (files_at made.new.trees id.count).tree.node
+          (inode_of c.make_in_copy.result)) (sym made.ensures.filesystem) ∙ c.make_in_copy.ensures.vacant;
     })
