@@ -1,5 +1,5 @@
 //! Orders of the lines of a script, tried one after the other.
-use crate::queues::{Queue, Queued, Queues};
+use crate::queues::{Queue, Queued, Queues, numbers_of};
 use crate::told::Told;
 use indexmap::IndexSet;
 use std::alloc::{AllocError, Global};
@@ -41,7 +41,7 @@ pub struct Trial {
 
 // A queue before its first line.
 fn front_of(queue: &Queue) -> Front {
-    let is_born = match queue.who.numbers() {
+    let is_born = match numbers_of(&queue.who) {
         Some(numbers) => numbers.is_empty(),
         None => true,
     };

@@ -5,32 +5,23 @@ use vt_line::line::{Line, Unescaped};
 use vt_line::version::Version;
 use vt_lines::lines::first_line;
 use vt_lines::reading::{free, reading};
+use vt_queues::{Who, first_named};
 use vt_request::{Call, CallKind, TaskName};
 
-/// Whose queue it is.
-#[derive(Drop)]
-pub enum Who {
-    Task(TaskName),
-    /// That of `!`.
-    Nobody,
+/// The numbers of a task's name; nothing for `!`.
+pub fn numbers_of(who: &Who) -> Option<&[u8]> {
+    match who {
+        Who::Task(name) => Some(name.numbers()),
+        Who::Nobody => None,
+    }
 }
 
-impl Who {
-    /// The numbers of a task's name; nothing for `!`.
-    pub fn numbers(&self) -> Option<&[u8]> {
-        match self {
-            Who::Task(name) => Some(name.numbers()),
-            Who::Nobody => None,
-        }
-    }
-
-    /// Whether this is the task with these numbers in its name, or `!` where there are none.
-    pub fn is(&self, numbers: Option<&[u8]>) -> bool {
-        match (self.numbers(), numbers) {
-            (Some(own), Some(numbers)) => own == numbers,
-            (None, None) => true,
-            _ => false,
-        }
+// Whether this is the task with these numbers in its name, or `!` where there are none.
+fn has_numbers(who: &Who, numbers: Option<&[u8]>) -> bool {
+    match (numbers_of(who), numbers) {
+        (Some(own), Some(numbers)) => own == numbers,
+        (None, None) => true,
+        _ => false,
     }
 }
 
@@ -120,55 +111,12 @@ fn is_fork(call: &Call<'_>) -> bool {
     call.kind() == CallKind::Fork
 }
 
-// The first word of a line, as it is written, with spaces around it.
-fn first_word(line: &[u8]) -> &[u8] {
-    let mut end: usize = 0;
-    let mut is_found = false;
-    for (place, byte) in line.iter().enumerate() {
-        if *byte == b' ' && is_found {
-            break;
-        }
-        is_found |= *byte != b' ';
-        end = place.saturating_add(1);
-    }
-    line.get(..end).unwrap_or_default()
-}
-
-// Whose line a first word begins, if this stands behind it.
-fn who_before(
-    version: Version,
-    alloc: Global,
-    word: &[u8],
-    behind: &[u8],
-) -> Result<Option<Who>, AllocError> {
-    let mut line = word.to_vec(alloc)?;
-    line.extend_from_slice(behind)?;
-    let mut texts = None;
-    let read = reading(version, alloc, line.as_slice(), &mut texts)?;
-    let who = match &read {
-        Some(Line::Call(name, _)) => task(name),
-        Some(Line::Ask(_)) => Ok(Some(Who::Nobody)),
-        _ => Ok(None),
-    };
-    free(read);
-    who
-}
-
-// The task of this name.
-fn task(name: &TaskName) -> Result<Option<Who>, AllocError> {
-    Ok(Some(Who::Task(name.clone()?)))
-}
-
-// Where a line stands that is not of the grammar: in the queue that its first word names.
-fn refused_place(version: Version, alloc: Global, line: &[u8]) -> Result<Place, AllocError> {
+// Where a line stands that is not of the grammar: in the queue that its first token names.
+fn refused_place(alloc: Global, line: &[u8]) -> Result<Place, AllocError> {
     if line.len() > LONGEST_LINE {
         return Ok(Place::Nowhere);
     }
-    let word = first_word(line);
-    if let Some(who) = who_before(version, alloc, word, b" exit")? {
-        return Ok(Place::Refused(who));
-    }
-    match who_before(version, alloc, word, b" peers")? {
+    match first_named(alloc, line)? {
         Some(who) => Ok(Place::Refused(who)),
         None => Ok(Place::Nowhere),
     }
@@ -180,7 +128,7 @@ fn read_line(version: Version, alloc: Global, line: &[u8]) -> Result<Place, Allo
     let read = reading(version, alloc, line, &mut texts)?;
     let place = match &read {
         Some(line) => place_of(line),
-        None => refused_place(version, alloc, line),
+        None => refused_place(alloc, line),
     };
     free(read);
     place
@@ -189,7 +137,7 @@ fn read_line(version: Version, alloc: Global, line: &[u8]) -> Result<Place, Allo
 // The place of the queue of the task with these numbers in its name, or of `!`.
 fn find(queues: &[Queue], numbers: Option<&[u8]>) -> Option<usize> {
     for (place, queue) in queues.iter().enumerate() {
-        if queue.who.is(numbers) {
+        if has_numbers(&queue.who, numbers) {
             return Some(place);
         }
     }
@@ -266,7 +214,7 @@ impl<'a> Queues<'a> {
 
     // Puts a line last into the queue of this task, or of `!`.
     fn push(&mut self, alloc: Global, who: Who, line: Queued<'a>) -> Result<(), AllocError> {
-        let place = match find(&self.queues, who.numbers()) {
+        let place = match find(&self.queues, numbers_of(&who)) {
             Some(place) => place,
             None => {
                 let place = self.queues.len();
@@ -307,7 +255,7 @@ impl<'a> Queues<'a> {
 
     // Behind which line the task of a queue is born.
     fn birth_of(&self, queue: &Queue) -> Option<Birth> {
-        let (number, parent) = queue.who.numbers()?.split_last()?;
+        let (number, parent) = numbers_of(&queue.who)?.split_last()?;
         let parent = find(&self.queues, Some(parent))?;
         Some(Birth {
             queue: parent,

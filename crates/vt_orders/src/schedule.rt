@@ -1,8 +1,9 @@
 //! The schedule of turns in which the lines of a script are answered in an order.
-use crate::queues::{Queues, Who};
+use crate::queues::{Queues, numbers_of};
 use std::alloc::{AllocError, Global};
 use vt_check::draft::Draft;
 use vt_lines::told::{Teller, answer_told};
+use vt_queues::Who;
 use vt_request::{Answer, Call, CallKind, TaskName};
 use vt_script::Calls;
 use vt_spec::errors::{Deny, Rule};
@@ -120,7 +121,7 @@ pub fn schedule_of<C: Calls, T: Turns<C>>(
 
 /// Appends the name of a task, or `!`.
 pub fn push_who(text: &mut Draft, who: &Who) {
-    let Some(numbers) = who.numbers() else {
+    let Some(numbers) = numbers_of(who) else {
         return text.push("!");
     };
     text.push("t");

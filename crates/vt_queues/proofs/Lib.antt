@@ -1,3 +1,4 @@
+pub mod FirstTokens
 pub mod Meant
 pub mod Places
 pub mod Shortening

@@ -3,8 +3,10 @@
 
 mod call_line;
 mod item;
+mod names;
 mod queues;
 
 pub use call_line::CallLine;
 pub use item::{Item, Queued, Who};
+pub use names::{first_named, named};
 pub use queues::Queues;

@@ -9,7 +9,7 @@ use Rattle.vt_laws_rules.specs.Numbers.{Allotment}
 use Rattle.vt_spec.specs.Machine.Run.{Serves}
 use Rattle.vt_laws_rules.proofs.numbers.Texts.{room_serves}
 use Rattle.vt_laws_trees.specs.Runs.Handed.{may_be_given}
-use Rattle.vt_laws_turns.specs.Commits.{Turn, is_run}
+use Rattle.vt_laws_turns.specs.Commits.{Turn}
 use Rattle.vt_laws_turns.proofs.same_states.PlaysAlike.{played_turns_are_whole_calls, plays_begin, plays_go_on}
 use Rattle.vt_laws_turns.specs.Dated.{SameDated}
 use Rattle.vt_request.specs.declared.answer.Answer.{Answer}
@@ -18,7 +18,7 @@ use Rattle.vt_queues.specs.declared.item.Who.{Who as WhoCode}
 use Rattle.vt_queues.specs.declared.queues.Queues.{Queues}
 use Rattle.vt_turns.specs.Ends.{IsReady}
 use Rattle.vt_turns.specs.SchedValue.{reply_meant, sched_at, sched_meant}
-use Rattle.vt_turns.specs.Turned.{AreRunWhole, IsHanded, IsPlayedBy, PlaysAs, Turns, TurnsAndKeeps, TurnsAs, answered, may_run, queues_after, supply}
+use Rattle.vt_turns.specs.Turned.{AreRunWhole, IsHanded, IsPlayedBy, PlaysAs, Turns, TurnsAndKeeps, TurnsAs, allocates, answered, first_allocates, queues_after, supply}
 use Rattle.vt_turns.specs.declared.sched.Reply.{Reply as ReplyCode}
 use Rattle.vt_turns.specs.declared.sched.Sched.{Sched as SchedCode}
 use Rattle.vt_turns.specs.declared.state.State.{State}
@@ -71,7 +71,7 @@ module _ {C : Type 0} (seen : C → World ℕ) (old : SchedCode C) (who : Who) w
   -- the turn of what is first
   pub turn_of_item : (queued : Queued) → first ≡ Some queued → (answer : Option (Result Answer Deny)) (state : State C)
       (queues : Queues) → Turns seen (λ waiting number fresh. item_turn nat_eq (sched_at seen old.state waiting) who number
-      queued.item fresh) (is_run who queued.item) who old.state answer state
+      queued.item fresh) (allocates who queued.item) who old.state answer state
       → queues_meant queues ≡ queues_after who answer (queues_meant old.queues)
       → TurnsAs seen old who (answered queued.line answer) (record { queues = queues; state = state })
   turn_of_item queued there answer state queues turns left =
@@ -80,7 +80,7 @@ module _ {C : Type 0} (seen : C → World ℕ) (old : SchedCode C) (who : Who) w
       record {
         given = turns.given;
         handed = subst (λ b. IsHanded b (seen old.state.world) turns.given)
-            (sym (ap (holds_of (λ (q : Queued). is_run who q.item)) there)) turns.handed;
+            (sym (ap (holds_of (λ (q : Queued). allocates who q.item)) there)) turns.handed;
         replies = ap (λ (t : Turned ℕ). t.reply) is ∙ turned.reply;
         queues_left = ap (λ (t : Turned ℕ). t.sched.queues) is ∙ turned.queues_left ∙ sym left;
         under_way = ap (λ (t : Turned ℕ). t.sched.under_way) is ∙ turned.under_way;
@@ -159,7 +159,7 @@ module _ {C : Type 0} (seen : C → World ℕ) where
         ∙ ap (λ (list : List Who). list ++ (who ∷ [])) before.whose;
     played = plays_go_on (sched_meant seen old) (sched_meant seen now) (sched_meant seen next) before.turns replies
         (who, supply turns.given) reply before.played ready.1
-        (unused (may_run seen (sched_meant seen now) who) (seen now.state.world) turns.given turns.handed)
+        (unused (first_allocates seen (sched_meant seen now) who) (seen now.state.world) turns.given turns.handed)
         turns.replies
         (record { world = turns.world; queues = turns.queues_left; under_way = turns.under_way });
   }

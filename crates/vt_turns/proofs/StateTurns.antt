@@ -9,7 +9,6 @@ use Rattle.vt_laws_rules.specs.Numbers.{Allotment}
 use Rattle.vt_laws_rules.proofs.rules.OwnRules.{denial_changes_nothing}
 use Rattle.vt_laws_rules.proofs.denials.Unchanged.{directive_changes_nothing}
 use Rattle.vt_laws_trees.proofs.runs.answered.AlikeWorlds.{sameness_is_an_equivalence}
-use Rattle.vt_laws_turns.specs.Commits.{is_run}
 use Rattle.vt_laws_turns.specs.Dated.{SameDated}
 use Rattle.vt_request.specs.declared.answer.Answer.{Answer}
 use Rattle.vt_request.specs.Answers.{result_of}
@@ -17,7 +16,7 @@ use Rattle.vt_answers.specs.Ends.{Directs, MayBeRefusedMemory}
 use Rattle.vt_turns.specs.Ends.{EndsDated, IsReady}
 use Rattle.vt_turns.specs.Going.{left_under_way, walked_in}
 use Rattle.vt_turns.specs.SchedValue.{sched_at, under_way_meant}
-use Rattle.vt_turns.specs.Turned.{IsTurned, Turns}
+use Rattle.vt_turns.specs.Turned.{IsTurned, Turns, allocates}
 use Rattle.vt_spec.specs.Language.Limits.{longest_line}
 use Rattle.vt_spec.specs.Language.Script.{is_silent}
 use Rattle.vt_queues.specs.QueuesValue.{call_in, called}
@@ -159,7 +158,7 @@ module _ {C : Type 0} (seen : C → World ℕ) (old : State C) (ready : IsReady 
   item_turns who item queues number fresh = item_turn nat_eq (sched_at seen old queues) who number item fresh
 
   abbrev Answers : Who → Item → Result Answer Deny → Type 0
-  Answers who item result = Turns seen (item_turns who item) (is_run who item) who old (Some result) old
+  Answers who item result = Turns seen (item_turns who item) (allocates who item) who old (Some result) old
 
   answers_so : (who : Who) (item : Item) (result : Result Answer Deny)
       → ((queues : List Queue) (number : ℕ) → IsTurned seen (item_turns who item queues number (Some ready.0.0.new)) who queues
@@ -202,7 +201,7 @@ module _ {C : Type 0} (seen : C → World ℕ) (old : State C) (ready : IsReady 
   -- the call that a line in a task's queue asks for
   abbrev LineTurns : TaskName → Option Call → Option (Result Answer Deny) → State C → Type 0
   LineTurns name asked answer new = Turns seen (item_turns (Someone name) (called asked))
-      (is_run (Someone name) (called asked)) (Someone name) old answer new
+      (allocates (Someone name) (called asked)) (Someone name) old answer new
 
   pub line_turns : (name : TaskName) (asked : Option Call) (call : Call) → asked ≡ Some call
       → (answer : Option (Result Answer Deny)) (new : State C)
@@ -227,7 +226,7 @@ module _ {C : Type 0} (seen : C → World ℕ) (old : State C) (ready : IsReady 
       told_world = subst (λ w. SameDated w (seen old.world)) (sym (directive_changes_nothing (seen old.world) directive))
           (dated_itself (seen old.world))
 
-      failed : (w : Who) → is_run w (Asks directive) ≡ true
+      failed : (w : Who) → allocates w (Asks directive) ≡ true
           → ((queues : List Queue) (number : ℕ)
           → IsTurned seen (item_turns w (Asks directive) queues number None) w queues number (Some (Err (denial S5))) old)
           → result ≡ Err (denial S5) → Answers w (Asks directive) result
@@ -247,13 +246,13 @@ module _ {C : Type 0} (seen : C → World ℕ) (old : State C) (ready : IsReady 
         under_way = refl;
         world = told_world;
       })
-      by (Someone name) (inr is) = failed (Someone name) refl (λ queues number. record {
+      by (Someone name) (inr is) = failed (Someone name) (ap (λ d. allocates (Someone name) (Asks d)) is.1) (λ queues number. record {
         reply = refl;
         queues_left = refl;
         under_way = refl;
         world = dated_itself (seen old.world);
       }) is.0
-      by Nobody (inr is) = failed Nobody refl (λ queues number. record {
+      by Nobody (inr is) = failed Nobody (ap (λ d. allocates Nobody (Asks d)) is.1) (λ queues number. record {
         reply = refl;
         queues_left = refl;
         under_way = refl;

@@ -1,17 +1,19 @@
 -- The turns of code, as the definitions have them.
-use Rattle.std.specs.Prelude.{Bool, List, None, Option, Result, Some, [], if◌then◌else◌, is_some, map, nat_eq, option_map, option_to_list, true, ℕ, ◌++◌, ◌∷◌, ◌≡◌, ◌≤◌}
+use Rattle.std.specs.Prelude.{Bool, List, None, Option, Result, Some, [], false, if◌then◌else◌, is_some, map, nat_eq, option_map, option_to_list, true, ℕ, ◌++◌, ◌∷◌, ◌≡◌, ◌≤◌}
 use Rattle.vt_spec.specs.declared.errors.Deny.{Deny}
 use Rattle.vt_spec.specs.Language.Calls.{TaskName}
+use Rattle.vt_spec.specs.Language.Calls.Directive.{AskPeers, AskSealed}
 use Rattle.vt_spec.specs.Language.Limits.{most_restarts}
 use Rattle.vt_spec.specs.Language.Script.{Who}
-use Rattle.vt_spec.specs.Language.Script.Who.{Someone}
+use Rattle.vt_spec.specs.Language.Script.Who.{Nobody, Someone}
 use Rattle.vt_spec.specs.Lists.{Fresh, first_of_list, holds_of}
-use Rattle.vt_spec.specs.Machine.Turns.{Queue, Reply, Sched as SchedMeant, Turned, queue_of, shortened, turn}
+use Rattle.vt_spec.specs.Machine.Turns.{Item, Queue, Reply, Sched as SchedMeant, Turned, queue_of, shortened, turn}
+use Rattle.vt_spec.specs.Machine.Turns.Item.{Asks, Calls, Refused}
 use Rattle.vt_spec.specs.Machine.World.{World}
 use Rattle.vt_laws_rules.specs.Numbers.{Allotment}
 use Rattle.vt_laws_trees.specs.Runs.Handed.{may_be_given}
 use Rattle.vt_laws_trees.specs.Runs.Runs.{ServesInHand}
-use Rattle.vt_laws_turns.specs.Commits.{Turn, is_run}
+use Rattle.vt_laws_turns.specs.Commits.{Turn}
 use Rattle.vt_laws_turns.specs.Dated.{SameDated}
 use Rattle.vt_laws_turns.specs.Restarts.{IsSched, restarts_in}
 use Rattle.vt_laws_turns.specs.SameStates.{AreWholeCalls, IsPlayed}
@@ -23,6 +25,14 @@ use Rattle.vt_turns.specs.declared.state.State.{State}
 use Rattle.vt_turns.specs.declared.sched.Reply.{Reply as ReplyCode}
 use Rattle.vt_turns.specs.Ends.{IsReady}
 use Rattle.vt_turns.specs.SchedValue.{reply_meant, sched_meant, under_way_meant}
+
+-- an allocation may fail in it: a call of a task, or a directive that makes a list
+abbrev pub allocates : Who → Item → Bool
+allocates (Someone name) (Calls call) = true
+allocates Nobody (Calls call) = false
+allocates who (Asks AskPeers) = true
+allocates who (Asks (AskSealed tasks)) = false
+allocates who (Refused deny) = false
 
 -- what a turn is handed: numbers that serve the world and leave endless numbers over, or none where an allocation fails
 abbrev pub IsHanded : (may_fail : Bool) → World ℕ → Option Allotment → Type 0
@@ -59,16 +69,16 @@ module _ {C : Type 0} (seen : C → World ℕ) where
         → IsTurned (turn queues line (supply given)) who queues line answer new
     pub ready : IsReady (seen new.world)
 
-  -- what stands first in a queue is run, so that an allocation may fail
-  abbrev pub may_run : SchedMeant ℕ → Who → Bool
-  may_run sched who = holds_of (λ first. is_run who first.item) (first_of_list (queue_of sched.queues who))
+  -- what stands first in a queue allocates
+  abbrev pub first_allocates : SchedMeant ℕ → Who → Bool
+  first_allocates sched who = holds_of (λ first. allocates who first.item) (first_of_list (queue_of sched.queues who))
 
   -- The turn of the definitions, for numbers that serve the world, or for none where an allocation fails: it replies so,
   -- and leaves these queues and calls under way, and the same world with all change numbers, which is ready for
   -- the next turn.
   pub record TurnsAs (old : Sched C) (who : Who) (reply : Option Reply) (new : Sched C) : Type 0 where
     pub given : Option Allotment
-    pub handed : IsHanded (may_run (sched_meant seen old) who) (seen old.state.world) given
+    pub handed : IsHanded (first_allocates (sched_meant seen old) who) (seen old.state.world) given
     pub replies : (turn nat_eq (sched_meant seen old) who (supply given)).reply ≡ reply
     pub queues_left : (turn nat_eq (sched_meant seen old) who (supply given)).sched.queues ≡ queues_meant new.queues
     pub under_way : (turn nat_eq (sched_meant seen old) who (supply given)).sched.under_way ≡ under_way_meant new.state

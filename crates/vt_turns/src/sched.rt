@@ -76,7 +76,7 @@ impl<C: TakesTurns> Sched<C> {
 
     /// One turn of the queue of `!`.
     ///
-    /// Where an allocation fails the directive is answered by S5 (ENOMEM).
+    /// Where an allocation fails `! peers` is answered by S5 (ENOMEM).
     pub fn turn_directive(&mut self) -> Option<Reply>
         ensures { IsReady (C.world self.old.state.world)
             → TurnsAs C.world self.old Nobody (option_map reply_meant result) self.new }

@@ -3,13 +3,12 @@ ghost use Rattle.std.specs.Prelude.{◌≡◌, IfOk, OnErr, filter, is_some, nat
 ghost use Rattle.vt_spec.specs.Language.Calls.{same_name};
 ghost use Rattle.vt_spec.specs.Language.Script.Who.{Someone};
 ghost use Rattle.vt_spec.specs.Machine.Turns.{call_turn, item_turn, without_progress};
-ghost use Rattle.vt_laws_turns.specs.Commits.{is_run};
 ghost use Rattle.vt_request.specs.Requests.{call_of};
 ghost use Rattle.vt_queues.specs.QueuesValue.{call_in, called, item_meant, who_meant};
 ghost use Rattle.vt_turns.specs.Going.{left_under_way, walked_in};
 ghost use Rattle.vt_turns.specs.Ends.{IsReady};
 ghost use Rattle.vt_turns.specs.SchedValue.{sched_at, under_way_meant};
-ghost use Rattle.vt_turns.specs.Turned.{Turns};
+ghost use Rattle.vt_turns.specs.Turned.{Turns, allocates};
 
 use crate::progress::Progress;
 use crate::walking::walked;
@@ -90,7 +89,7 @@ impl<C: TakesTurns> State<C> {
     ) -> Option<Result<Answer, Deny>>
         ensures { IsReady (C.world self.old.world)
             → Turns C.world (λ queues number fresh. item_turn nat_eq (sched_at C.world self.old queues) (Someone name.now)
-            number (called (call_in line.now)) fresh) (is_run (Someone name.now) (called (call_in line.now)))
+            number (called (call_in line.now)) fresh) (allocates (Someone name.now) (called (call_in line.now)))
             (Someone name.now) self.old result self.new }
     {
         let mut texts: Option<Unescaped> = None;
@@ -108,7 +107,7 @@ impl<C: TakesTurns> State<C> {
         ensures { IsReady (C.world self.old.world)
             → Turns C.world (λ queues number fresh. item_turn nat_eq (sched_at C.world self.old queues)
             (who_meant who.now) number (called (call_in line.now)) fresh)
-            (is_run (who_meant who.now) (called (call_in line.now))) (who_meant who.now) self.old result self.new }
+            (allocates (who_meant who.now) (called (call_in line.now))) (who_meant who.now) self.old result self.new }
     {
         match who {
             Who::Task(name) => self.turn_of_tasks_line(name, line),
@@ -122,7 +121,7 @@ impl<C: TakesTurns> State<C> {
     pub(crate) fn turn(&mut self, who: &Who, item: &Item) -> Option<Result<Answer, Deny>>
         ensures { IsReady (C.world self.old.world)
             → Turns C.world (λ queues number fresh. item_turn nat_eq (sched_at C.world self.old queues)
-            (who_meant who.now) number (item_meant item.now) fresh) (is_run (who_meant who.now) (item_meant item.now))
+            (who_meant who.now) number (item_meant item.now) fresh) (allocates (who_meant who.now) (item_meant item.now))
             (who_meant who.now) self.old result self.new }
     {
         match item {

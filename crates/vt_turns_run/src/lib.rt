@@ -2,10 +2,9 @@
 #![tactic(auto)]
 
 mod lines;
-mod names;
 mod playing;
 mod reading;
 mod running;
 
 pub use playing::{Played, play_script};
-pub use running::turns_run;
+pub use running::{turns_run, write_replies};

@@ -1,5 +1,10 @@
 //! A script is read, and answered in turns.
-ghost use Rattle.std.specs.Prelude.{◌+◌, ◌<◌, ◌^◌, ◌≡◌, IfErr, IsErrOf};
+ghost use Rattle.std.specs.Prelude.{◌+◌, ◌<◌, ◌^◌, ◌≡◌, ◌⊎◌, IfErr, IfOk, IsErrOf, OnOk, map};
+ghost use Rattle.vt_io.specs.Sink.{Prints};
+ghost use Rattle.vt_laws_turns.specs.Commits.{text_of_replies};
+ghost use Rattle.vt_line.specs.Versions.{version_of};
+ghost use Rattle.vt_turns.specs.SchedValue.{reply_meant};
+ghost use Rattle.vt_turns_run.specs.Played.{BeginsToWriteReplies, WritesReplies};
 
 use crate::playing::{Played, play_script};
 use std::alloc::Global;
@@ -16,6 +21,10 @@ const CHUNK: usize = 8192;
 // All that a source gives.
 fn read_all<R: Source>(alloc: Global, source: &mut R) -> Result<Vec<u8>, RunFault>
     requires { R.failures source.old + 1 < 2 ^ 64 }
+    ensures ok { IfOk result (λ all. R.tells source.old → all.items ≡ R.rest source.old) }
+    ensures read_failed { IsErrOf result RunFault.Read → R.failures source.new ≡ R.failures source.old + 1 }
+    ensures no_read_failed { IsErrOf result RunFault.Read ⊎ (R.failures source.new ≡ R.failures source.old) }
+    ensures fault { IfErr result (λ fault. (fault ≡ RunFault.Read) ⊎ (fault ≡ RunFault.Memory)) }
 {
     let mut all = Vec::new(alloc);
     let mut chunk = [0; CHUNK];
@@ -34,10 +43,11 @@ fn read_all<R: Source>(alloc: Global, source: &mut R) -> Result<Vec<u8>, RunFaul
     Ok(all)
 }
 
-// Writes the replies, one after the other.
-fn write_replies<W: Sink>(sink: &mut W, played: &Played) -> Result<(), RunFault>
+/// Writes the replies, one after the other.
+pub fn write_replies<W: Sink>(sink: &mut W, played: &Played) -> Result<(), RunFault>
     requires { W.failures sink.old + 1 < 2 ^ 64 }
-    ensures { IfErr result (λ fault. fault ≡ RunFault.Write) }
+    ensures printed { Prints W.Sink (text_of_replies (map reply_meant played.now.replies.items)) result sink.old sink.new }
+    ensures fault { IfErr result (λ fault. fault ≡ RunFault.Write) }
 {
     for reply in &played.replies {
         write_reply(sink, reply.line, &reply.answer)?;
@@ -59,8 +69,25 @@ pub fn turns_run<C: TakesTurns, R: Source, S: Source, W: Sink>(
     requires script_countable { R.failures script.old + 1 < 2 ^ 64 }
     requires schedule_countable { S.failures schedule.old + 1 < 2 ^ 64 }
     requires sink_countable { W.failures sink.old + 1 < 2 ^ 64 }
+
+    // Where the sources and the sink tell their bytes: the replies to all that was to come are written, or, after a failed
+    // write, a beginning of them.
+    ensures ok { OnOk result (R.tells script.old → S.tells schedule.old → WritesReplies C.world W.Sink (version_of version)
+        (R.rest script.old) (S.rest schedule.old) sink.old sink.new) }
+    ensures after_write { IsErrOf result RunFault.Write → R.tells script.old → S.tells schedule.old
+        → BeginsToWriteReplies C.world W.Sink (version_of version) (R.rest script.old) (S.rest schedule.old) sink.old sink.new }
+
+    // Before the first turn nothing was written.
     ensures read { IsErrOf result RunFault.Read → sink.new ≡ sink.old }
     ensures memory { IsErrOf result RunFault.Memory → sink.new ≡ sink.old }
+
+    // The first failure of a device ends the run, and is its answer.
+    ensures read_failed { IsErrOf result RunFault.Read → (R.failures script.new ≡ R.failures script.old + 1)
+        ⊎ (S.failures schedule.new ≡ S.failures schedule.old + 1) }
+    ensures no_read_failed { IsErrOf result RunFault.Read ⊎ ((R.failures script.new ≡ R.failures script.old)
+        × (S.failures schedule.new ≡ S.failures schedule.old)) }
+    ensures write_failed { IsErrOf result RunFault.Write → W.failures sink.new ≡ W.failures sink.old + 1 }
+    ensures no_write_failed { IsErrOf result RunFault.Write ⊎ (W.failures sink.new ≡ W.failures sink.old) }
 {
     let script = read_all(alloc, script)?;
     let schedule = read_all(alloc, schedule)?;
