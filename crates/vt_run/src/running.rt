@@ -3,7 +3,7 @@ ghost use Rattle.std.specs.Prelude.{◌≡◌, ◌<◌, ◌⊎◌, Some, None, I
 ghost use Rattle.std.specs.Io.{ReadsAtMost};
 ghost use Rattle.std.specs.Io.KnownBytes.{ReadConsumes};
 ghost use Rattle.vt_line.specs.Versions.{version_of};
-ghost use Rattle.vt_run.specs.Answered.{AnswersKnown, IsFresh};
+ghost use Rattle.vt_run.specs.Answered.{AnswersKnown, AnswersKnownLines, BeginsKnownAnswers, IsFresh};
 ghost use Rattle.vt_run.specs.Status.{comes_before_output, is_of_run};
 
 use crate::fault::{Fault, out_of_memory};
@@ -65,11 +65,10 @@ impl<D: Read> Read for Watched<D> {
     }
 }
 
-/// Answers the script that a source gives, in a version of its language, and flushes the sink, also before a fault. The
-/// world is given back, to be freed or forgotten.
+/// Answers the script that a source gives, in a version of its language, and flushes the sink, also where a device failed.
+/// The world is given back, to be freed or forgotten.
 ///
-/// `Read` and `Write`: that device failed; what was written then, only `run_as` says. `Memory`: an allocation failed
-/// before anything was read.
+/// `Read` and `Write`: that device failed. `Memory`: an allocation failed before anything was read or written.
 pub fn answer<C: Calls, R: Read + Drop, W: Write + Drop>(
     version: Version,
     alloc: Global,
@@ -81,17 +80,30 @@ pub fn answer<C: Calls, R: Read + Drop, W: Write + Drop>(
     ensures ok { OnOk result (AnswersKnown (version_of version) (R.remaining source.old.reader)
         (W.contents sink.old.writer) (W.contents sink.new.writer)) }
 
+    // After a failed read the complete lines before it are answered; after a failed write what the writer holds is a
+    // beginning of the answers.
+    ensures after_read { IsErrOf result RunFault.Read → AnswersKnownLines (version_of version) (R.remaining source.old.reader)
+        (R.remaining source.new.reader) (W.contents sink.old.writer) (W.contents sink.new.writer) }
+    ensures after_write { IsErrOf result RunFault.Write → BeginsKnownAnswers (version_of version)
+        (R.remaining source.old.reader) (W.contents sink.old.writer) (W.contents sink.new.writer) }
+
     // Each failure of a device is a fault, and no fault of a device comes without one.
     ensures read { IsErrOf result RunFault.Read → source.new.failures ≡ 1 }
     ensures no_read { IsErrOf result RunFault.Read ⊎ (source.new.failures ≡ 0) }
     ensures write { IsErrOf result RunFault.Write → 0 < sink.new.failures }
     ensures no_write { IsErr result ⊎ (sink.new.failures ≡ 0) }
-    ensures memory { IsErrOf result RunFault.Memory → source.new ≡ source.old }
+    ensures memory { IsErrOf result RunFault.Memory → (source.new ≡ source.old) × (sink.new ≡ sink.old) }
 {
-    let outcome = run_as::<C, _, _>(version, alloc, source, sink);
-    let flushed = sink.flush();
-    let world = outcome?;
-    match flushed {
+    let world = match run_as::<C, _, _>(version, alloc, source, sink) {
+        Ok(world) => world,
+        Err(RunFault::Memory) => return Err(RunFault::Memory),
+        Err(fault) => {
+            // The device that failed is told, and not what may come of this flush.
+            let _ = sink.flush();
+            return Err(fault);
+        }
+    };
+    match sink.flush() {
         Ok(()) => Ok(world),
         Err(_) => {
             world.end();
@@ -100,24 +112,36 @@ pub fn answer<C: Calls, R: Read + Drop, W: Write + Drop>(
     }
 }
 
-// Answers the script that a reader gives, with the fault that the program tells. The writer that is returned was handed
-// all that was kept back.
-fn answer_named<C: Calls, R: Read + Drop, W: Write + Drop>(
-    version: Version,
+/// A script that is open.
+pub struct Opened<'a, R> {
+    pub version: Version,
+    /// Its name, as a fault tells it.
+    pub name: &'a str,
+    pub reader: R,
+}
+
+/// Answers an open script, with the fault that the program tells. The writer that is returned was handed all that was kept
+/// back; before a fault what was answered is handed on too, and no clause says so. It is the last that a program does: the
+/// world is not freed.
+pub fn answer_named<C: Calls, R: Read + Drop, W: Write + Drop>(
     alloc: Global,
-    name: &str,
-    script: R,
+    script: Opened<'_, R>,
     pace: Pace,
     output: W,
 ) -> Result<W, Fault>
-    ensures answers { IfOk result (λ writer. AnswersKnown (version_of version) (R.remaining script) (W.contents output)
-        (W.contents writer)) }
+    ensures answers { IfOk result (λ writer. AnswersKnown (version_of script.entry.version)
+        (R.remaining script.entry.reader) (W.contents output) (W.contents writer)) }
     ensures fault { IfErr result (λ fault. comes_before_output fault ≡ false) }
     ensures of_run { IfErr result (λ fault. is_of_run fault ≡ true) }
 {
+    let Opened {
+        version,
+        name,
+        reader,
+    } = script;
     let buffered = BufWriter::with_capacity(alloc, pace.capacity(), output);
     let mut sink = WriteSink::new(buffered.map_err(out_of_memory)?);
-    let mut reader = Watched::new(script);
+    let mut reader = Watched::new(reader);
     let mut source = ReadSource::new(&mut reader);
     let outcome = answer::<C, _, _>(version, alloc, &mut source, &mut sink);
     let handed_on = sink.into_inner().into_inner();
@@ -155,32 +179,14 @@ fn read_fault(alloc: Global, name: &str, cause: Option<io::Error>) -> Fault
     }
 }
 
-/// Answers the script in the file of this name, or on the standard input where it is `-`. It is the last that a program
-/// does: the world is not freed.
-///
-/// What was answered is handed on to the output, also before a fault. No clause says so: these speak of the kind of a fault
-/// alone, and `answer_named` of what an `Ok` has written. That the file is what is read, tests show.
-pub fn run_named<C: Calls, R: Files + Input + AllocGlobal, W: Write>(
-    rt: &R,
-    version: Version,
-    name: &str,
-    pace: Pace,
-    output: &mut W,
-) -> Result<(), Fault>
-    ensures unwritten { IfErr result (λ fault. comes_before_output fault ≡ true → output.new ≡ output.old) }
-    ensures of_run { IfErr result (λ fault. is_of_run fault ≡ true) }
+/// Opens the file of this name.
+pub fn open<R: Files + AllocGlobal>(rt: &R, name: &str) -> Result<R::File, Fault>
+    ensures { IfErr result (λ fault. is_of_run fault ≡ true) }
 {
-    let alloc = rt.alloc();
-    if name == "-" {
-        let input = rt.reader();
-        return answer_named::<C, _, _>(version, alloc, "standard input", input, pace, output).map(
-            |_| (),
-        );
-    }
     match File::open(rt, name) {
-        Ok(file) => answer_named::<C, _, _>(version, alloc, name, file, pace, output).map(|_| ()),
+        Ok(file) => Ok(file),
         Err(cause) => Err(Fault::Open {
-            name: String::from_str(alloc, name).map_err(out_of_memory)?,
+            name: String::from_str(rt.alloc(), name).map_err(out_of_memory)?,
             cause,
         }),
     }

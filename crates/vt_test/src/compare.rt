@@ -1,8 +1,9 @@
 //! The answers of a run beside those that are wanted.
-ghost use Rattle.std.specs.Prelude.{List, Some, decimal, map, option_map, ℕ, ◌<◌, ◌^◌, ◌≡◌, ◌++◌, ◌∷◌, IfOk, MatchOption, OnOk};
+ghost use Rattle.std.specs.Prelude.{List, Some, decimal, map, option_map, ℕ, ◌<◌, ◌^◌, ◌≡◌, ◌++◌, ◌∷◌, IfOk, MatchOption, OnErr, OnOk};
 ghost use Rattle.vt_line.specs.Versions.{version_of};
 ghost use Rattle.vt_verdict.specs.Compared.{Line, differing, line_of};
 ghost use Rattle.vt_test.specs.Given.{AreTold, Compares, HasNoSpace, told_line, told_of};
+ghost use Rattle.vt_test.specs.Tested.{ComparesAll, ComparesFile, ComparesSome};
 
 use crate::suite::{Script, SuiteFault, scripts};
 use memchr::memchr;
@@ -14,6 +15,9 @@ pub use vt_verdict::compare::{Answer, Difference, differences, is_met};
 
 // In how large pieces a script is read.
 const PIECE: usize = 8192;
+
+// The answer to a line that is none of the language.
+const REFUSED: &[u8] = b"deny 22 EINVAL S1";
 
 // What stands before the first space of a line, and what follows the space.
 fn split_space(line: &[u8]) -> Option<(&[u8], &[u8])>
@@ -71,6 +75,14 @@ pub trait Comparing {
         ensures { goes_on self.old (map line_of found.now) self.new };
 }
 
+/// Whether the answer to a line is the denial of one that is none of the language.
+pub fn is_refused(given: &[Answer<'_>]) -> bool {
+    match given.first() {
+        Some(answer) => answer.text == REFUSED,
+        None => false,
+    }
+}
+
 // Tells how these answers to a script differ from those that it wants.
 fn compare<T: Comparing>(
     alloc: Global,
@@ -78,7 +90,8 @@ fn compare<T: Comparing>(
     given: &[Answer<'_>],
     told: &mut T,
 ) -> Result<(), AllocError>
-    ensures { OnOk result (T.goes_on told.old (differing script.now.wanted.items given.now) told.new) }
+    ensures ok { OnOk result (T.goes_on told.old (differing script.now.wanted.items given.now) told.new) }
+    ensures err { OnErr result (told.new ≡ told.old) }
 {
     let found = differences(alloc, script.wanted.as_slice(), given)?;
     told.tell(script, found.as_slice());
@@ -91,24 +104,43 @@ fn compare_script<C: Calls, T: Comparing>(
     script: &Script<'_>,
     told: &mut T,
 ) -> Result<(), AllocError>
-    ensures { OnOk result (Compares T.goes_on (version_of script.now.version) script.now.text.items script.now.wanted.items
-        told.old told.new) }
+    ensures ok { OnOk result (Compares T.goes_on (version_of script.now.version) script.now.text.items
+        script.now.wanted.items told.old told.new) }
+    ensures err { OnErr result (told.new ≡ told.old) }
 {
     let written = answers::<C>(script.version, alloc, script.text.as_slice(), PIECE)?;
     let given = given_lines(alloc, written.bytes())?;
     compare(alloc, script, given.as_slice(), told)
 }
 
+// Runs these scripts one after the other, and tells of each how its answers differ.
+fn compare_each<C: Calls, T: Comparing>(
+    alloc: Global,
+    scripts: &[Script<'_>],
+    told: &mut T,
+) -> Result<(), AllocError>
+    ensures ok { OnOk result (ComparesAll T.goes_on scripts.now told.old told.new) }
+    ensures err { OnErr result (ComparesSome T.goes_on told.old told.new) }
+{
+    for script in scripts {
+        compare_script::<C, T>(alloc, script, told)?;
+    }
+    Ok(())
+}
+
 /// Runs the scripts of a file, all in this version of their language, and tells of each how its answers differ.
+///
+/// After a fault some of the scripts have been told.
 pub fn compare_all<C: Calls, T: Comparing>(
     version: Version,
     alloc: Global,
     file: &[u8],
     told: &mut T,
-) -> Result<(), SuiteFault> {
+) -> Result<(), SuiteFault>
+    ensures ok { OnOk result (ComparesFile T.goes_on (version_of version) file.now told.old told.new) }
+    ensures err { OnErr result (ComparesSome T.goes_on told.old told.new) }
+{
     let all = scripts(version, alloc, file)?;
-    for script in &all {
-        compare_script::<C, T>(alloc, script, told)?;
-    }
+    compare_each::<C, T>(alloc, all.as_slice(), told)?;
     Ok(())
 }

@@ -1,11 +1,46 @@
 //! The outcome of a script as JSON, one object a line.
 use crate::compare::Difference;
 use crate::suite::{Answer, Script};
-use crate::text::{line_of, push_name};
+use crate::text::push_name;
 use serde_json::Value;
 use std::alloc::{AllocError, Global};
 use vt_check::draft::Draft;
 use vt_check::object::{List, Object};
+use vt_lines::lines::first_line;
+use vt_wanted::entry::without_end;
+
+// The lines of a script from one of them on.
+#[derive(Clone, Copy)]
+struct Lines<'a> {
+    text: &'a [u8],
+    // The number of the first.
+    first: u64,
+}
+
+impl<'a> Lines<'a> {
+    // From the one of this number on, which does not stand before them. So a script is read once.
+    fn from_line(self, number: u64) -> Lines<'a> {
+        let mut text = self.text;
+        for _ in self.first..number {
+            match first_line(text) {
+                Some((_, after)) => text = after,
+                None => break,
+            }
+        }
+        Lines {
+            text,
+            first: number,
+        }
+    }
+
+    // The first, without spaces at its end; an empty one where there is none.
+    fn first_line(self) -> &'a [u8] {
+        match first_line(self.text) {
+            Some((line, _)) => without_end(line),
+            None => &[],
+        }
+    }
+}
 
 // Answers as texts.
 fn texts(alloc: Global, answers: &[Answer<'_>]) -> Result<Value, AllocError> {
@@ -16,17 +51,22 @@ fn texts(alloc: Global, answers: &[Answer<'_>]) -> Result<Value, AllocError> {
     texts.end()
 }
 
-// The differences of a script, each as an object.
+// The differences of a script, in the order of its lines, each as an object.
 fn differences(
     alloc: Global,
     script: &Script<'_>,
     found: &[Difference<'_>],
 ) -> Result<Value, AllocError> {
     let mut all = List::new(alloc);
+    let mut lines = Lines {
+        text: script.text.as_slice(),
+        first: 1,
+    };
     for one in found {
+        lines = lines.from_line(one.number);
         let mut object = Object::new(alloc);
         object.put_number("line", script.before.saturating_add(one.number));
-        object.put_bytes("call", line_of(script, one.number));
+        object.put_bytes("call", lines.first_line());
         object.put("wanted", texts(alloc, one.wanted));
         object.put("given", texts(alloc, one.given));
         all.push(object.end());

@@ -1,7 +1,7 @@
 //! A file of scripts with the answers that are given.
 ghost use Rattle.std.specs.Prelude.{⊤};
 
-use crate::compare::{Comparing, Difference, compare_all};
+use crate::compare::{Comparing, Difference, compare_all, is_refused};
 use crate::suite::{Answer, Script, SuiteFault};
 use std::alloc::{AllocError, Global};
 use vt_lines::lines::first_line;
@@ -26,9 +26,6 @@ fn written(alloc: Global, given: &[Answer<'_>]) -> Result<Vec<u8>, AllocError> {
     Ok(text)
 }
 
-// The answer to a line that is none of the language.
-const REFUSED: &[u8] = b"deny 22 EINVAL S1";
-
 // The changes of scripts, as they are answered. An allocation that fails is noted.
 #[derive(Drop)]
 struct Changes {
@@ -37,14 +34,6 @@ struct Changes {
     // How many of the lines are S1.
     refused: u64,
     failed: bool,
-}
-
-// Whether an answer is that to a line that is none of the language.
-fn is_refused(given: &[Answer<'_>]) -> bool {
-    match given.first() {
-        Some(answer) => answer.text == REFUSED,
-        None => false,
-    }
 }
 
 impl Comparing for Changes {

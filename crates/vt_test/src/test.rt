@@ -1,12 +1,14 @@
 //! Files of scripts, tested.
-ghost use Rattle.std.specs.Prelude.{◌≡◌, length};
+ghost use Rattle.std.specs.Prelude.{◌≡◌, IfOk, OnOk, length};
+ghost use Rattle.vt_line.specs.Versions.{version_of};
 ghost use Rattle.vt_verdict.specs.Counts.{counted};
+ghost use Rattle.vt_test.specs.Tested.{CountsFile, no_scripts, one_failed};
 
 use crate::compare::{Comparing, Difference, compare_all};
 use crate::suite::{Script, SuiteFault};
 use crate::text::push_failure;
 use crate::{json, junit};
-use std::alloc::Global;
+use std::alloc::{AllocError, Global};
 use std::io::{self, Write};
 use vt_check::draft::Draft;
 use vt_script::{Calls, Version};
@@ -34,7 +36,9 @@ struct Tested<'a> {
 
 impl<'a> Tested<'a> {
     // Nothing yet.
-    fn new(alloc: Global, file: &'a str, format: Format) -> Self {
+    fn new(alloc: Global, file: &'a str, format: Format) -> Self
+        ensures { result.totals ≡ no_scripts }
+    {
         Tested {
             text: Draft::new(alloc),
             alloc,
@@ -46,7 +50,9 @@ impl<'a> Tested<'a> {
     }
 
     // Goes on by what keeps the whole file from being tested.
-    fn fail(&mut self, said: &str) {
+    fn fail(&mut self, said: &str)
+        ensures { self.new.totals ≡ one_failed self.old.totals }
+    {
         self.totals.failed = self.totals.failed.saturating_add(1);
         self.has_fault = true;
         let (text, file) = (&mut self.text, self.file);
@@ -62,7 +68,9 @@ impl<'a> Tested<'a> {
     }
 
     // Writes what is to be said of the file.
-    fn write<W: Write>(self, output: &mut W) -> io::Result<Totals> {
+    fn write<W: Write>(self, output: &mut W) -> io::Result<Totals>
+        ensures { IfOk result (λ totals. totals ≡ self.entry.totals) }
+    {
         let totals = self.totals;
         let text = match self.format {
             Format::Text | Format::Json => self.text,
@@ -101,6 +109,20 @@ impl Comparing for Tested<'_> {
     }
 }
 
+impl Tested<'_> {
+    // Compares the scripts of the file, and says how their answers differ, or what keeps it from being tested.
+    fn compare<C: Calls>(&mut self, version: Version, content: &[u8]) -> Result<(), AllocError>
+        ensures { OnOk result (CountsFile (version_of version) content.now self.old.totals self.new.totals) }
+    {
+        let Err(fault) = compare_all::<C, _>(version, self.alloc, content, self) else {
+            return Ok(());
+        };
+        let said = format!(in self.alloc; "{fault}")?;
+        self.fail(said.as_str());
+        Ok(())
+    }
+}
+
 // Writes a text, if no allocation failed.
 fn write_text<W: Write>(output: &mut W, text: Draft) -> io::Result<()> {
     let text = text.end()?;
@@ -109,22 +131,26 @@ fn write_text<W: Write>(output: &mut W, text: Draft) -> io::Result<()> {
     written
 }
 
-/// Tests the scripts of a file, in a version of their language, and writes what is to be said of each.
+/// A file of scripts that is to be tested.
+#[derive(Clone, Copy)]
+pub struct Untested<'a> {
+    /// The version of the language of its scripts.
+    pub version: Version,
+    pub name: &'a str,
+    pub content: &'a [u8],
+}
+
+/// Tests the scripts of a file, and writes what is to be said of each.
 pub fn test_file<C: Calls, W: Write>(
-    version: Version,
     alloc: Global,
-    file: &str,
-    content: &[u8],
+    file: Untested<'_>,
     format: Format,
     output: &mut W,
-) -> io::Result<Totals> {
-    let mut tested = Tested::new(alloc, file, format);
-    if let Err(fault) = compare_all::<C, _>(version, alloc, content, &mut tested) {
-        match format!(in alloc; "{fault}") {
-            Ok(said) => tested.fail(said.as_str()),
-            Err(_) => tested.text.fail(),
-        }
-    }
+) -> io::Result<Totals>
+    ensures { IfOk result (CountsFile (version_of file.entry.version) file.entry.content.now no_scripts) }
+{
+    let mut tested = Tested::new(alloc, file.name, format);
+    tested.compare::<C>(file.version, file.content)?;
     tested.write(output)
 }
 
@@ -135,7 +161,9 @@ pub fn unread_file<W: Write>(
     why: &str,
     format: Format,
     output: &mut W,
-) -> io::Result<Totals> {
+) -> io::Result<Totals>
+    ensures { IfOk result (λ totals. totals ≡ one_failed no_scripts) }
+{
     let mut tested = Tested::new(alloc, file, format);
     match format {
         Format::Text => tested.totals.failed = 1,

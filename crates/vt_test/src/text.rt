@@ -1,5 +1,5 @@
 //! The outcome of a script as text.
-use crate::compare::Difference;
+use crate::compare::{Difference, is_refused};
 use crate::suite::{Answer, Script};
 use std::alloc::{AllocError, Global};
 use vt_check::check::push_explained;
@@ -22,8 +22,8 @@ pub fn push_name(text: &mut Draft, file: &str, name: &[u8]) {
     }
 }
 
-/// A line of a script, by its number, without spaces at its end.
-pub fn line_of<'a>(script: &'a Script<'_>, number: u64) -> &'a [u8] {
+// A line of a script, by its number, without spaces at its end.
+fn line_of<'a>(script: &'a Script<'_>, number: u64) -> &'a [u8] {
     without_end(line_at(script.text.as_slice(), number))
 }
 
@@ -59,11 +59,8 @@ fn push_difference(
     text.push_char('\n');
     push_answers(text, number, " | - ", found.wanted);
     push_answers(text, number, " | + ", found.given);
-    match found.given.first() {
-        Some(given) if given.text == b"deny 22 EINVAL S1".as_slice() => {
-            push_explained(text, script.version, alloc, file, number, line);
-        }
-        _ => {}
+    if is_refused(found.given) {
+        push_explained(text, script.version, alloc, file, number, line);
     }
 }
 

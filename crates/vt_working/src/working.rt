@@ -12,7 +12,7 @@ use vt_check::object::HEAD;
 use vt_files::{count_refused, hand_on, readable, replace, spoken, told};
 use vt_run::fault::Fault;
 use vt_script::{RunFault, Version};
-use vt_test::test::{Format, Totals, begin, end, test_file, unread_file};
+use vt_test::test::{Format, Totals, Untested, begin, end, test_file, unread_file};
 use vt_test::with_given_answers;
 use vt_wanted::header::version_of_file;
 
@@ -148,8 +148,13 @@ fn work_on<R: Files + Input + Eprint + AllocGlobal>(
             check::check(alloc, file, content, options, &mut report.text)
         }
         Job::Test { format, tells_all } => {
+            let untested = Untested {
+                version,
+                name: file,
+                content,
+            };
             let text = &mut report.text;
-            let tested = test_file::<Kernel, _>(version, alloc, file, content, format, text)?;
+            let tested = test_file::<Kernel, _>(alloc, untested, format, text)?;
             report.count(tested);
             let Totals { passed, failed } = tested;
             if tells_all {

@@ -14,7 +14,7 @@ returns-in-Ok-Ok-clause-answers g c =
     let empty = known_mapped _ c.with_capacity-buffered.result c.map_err.result c.in_ok-map_err.field-0
     (λ w. w.buf.items ≡ []) c.map_err.ensures.cases c.map_err.ensures.variant c.in_ok-map_err.was
     c.with_capacity-buffered.ensures.empty in
-    handed_on (version_of c.args.version) (remaining c.args.script) (contents c.args.output) (contents c.in-Ok-Ok.writer)
+    handed_on (version_of c.args.script.version) (remaining c.args.script.reader) (contents c.args.output) (contents c.in-Ok-Ok.writer)
     (rw c.in-Ok-Ok.is-0 at c.answer-outcome.ensures.ok)
     (ap remaining ((λ i. (c.new-source.ensures i).reader.now.device) ∙ c.new-reader.ensures))
     ((λ i. append_known (contents (c.new-sink.ensures i).writer.inner) (c.new-sink.ensures i).writer.buf.items)
