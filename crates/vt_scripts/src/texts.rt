@@ -4,7 +4,7 @@ use std::fs;
 use std::rt::Files;
 use vt_calls::Kernel;
 use vt_script::Version;
-use vt_test::test::{Format, test_file};
+use vt_test::test::{Format, Untested, test_file};
 use vt_test::with_given_answers;
 
 // The forms in which outcomes are written, by the ends of the files' names that hold them.
@@ -33,7 +33,12 @@ pub fn check<R: Files + Print + AllocGlobal>(rt: &R, file: &str) -> Result<()> {
     let name = file.trim_end_matches(".vt");
     for (end, format) in FORMS {
         let mut given = Vec::new(alloc);
-        test_file::<Kernel, _>(Version::One, alloc, file, content, format, &mut given)?;
+        let untested = Untested {
+            version: Version::One,
+            name: file,
+            content,
+        };
+        test_file::<Kernel, _>(alloc, untested, format, &mut given)?;
         let beside = format!(in alloc; "{name}.{end}")?;
         compare(rt, beside.as_str(), given.as_slice())?;
     }
