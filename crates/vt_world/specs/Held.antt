@@ -8,6 +8,8 @@ use Rattle.vt_laws_mounts.specs.Counts.Counted.{IsCounted}
 use Rattle.vt_laws_mounts.specs.Counts.OverlaysStay.{OverlaysAreNamed, layer_count}
 use Rattle.vt_laws_worlds.specs.OverlaysRead.Writers.{WritersHaveLayers}
 use Rattle.vt_laws_worlds.specs.OverlaysStay.Woven.{are_rising}
+use Rattle.vt_laws_upper_layers.specs.Lowered.{lowered}
+use Rattle.vt_laws_upper_layers.specs.UnnamedPins.{unnamed_pins}
 use Rattle.vt_fs.specs.FilesystemsValue.{FilesystemEntry, filesystem_seen, inodes_seen}
 use Rattle.vt_group.specs.Grouping.{Has}
 use Rattle.vt_laws_rules.specs.Numbers.{KeepsTo}
@@ -35,11 +37,12 @@ pub record CountsItsUses (world : World ℕ) (entry : MountEntry) : Type 0 where
   pub uses : entry.uses ≡ mount_uses world entry.mount.number
   pub writers : entry.writers ≡ writes_of entry.mount.number world.tasks
 
--- a filesystem counts the mounts that show it and the layers that overlays have in it, and its inodes their uses
+-- A filesystem counts the mounts that show it and the layers that overlays have in it, and its inodes their uses. Those
+-- are uses in the lowered world, in which layers, and upper objects of inodes without a name, are used by overlays.
 pub record CountsItsMounts (world : World ℕ) (entry : FilesystemEntry) : Type 0 where
   pub mounts : entry.mounts
       ≡ mounts_showing world (counted entry.count) + layer_count world (counted entry.count)
-  pub inodes : IsCounted world (filesystem_seen entry) (inodes_seen entry)
+  pub inodes : IsCounted (lowered (unnamed_pins world) world) (filesystem_seen entry) (inodes_seen entry)
 
 -- an overlay counts the mounts that show it
 abbrev pub IsMountedSoOften : World ℕ → OverlayEntry → Type 0

@@ -4,3 +4,4 @@ pub mod StoredWorld
 pub mod Lent
 pub mod OverlaysKept
 pub mod OverlaysMade
+pub mod Counting

@@ -5,6 +5,7 @@
 //! changes, and a new one is what the definitions make.
 #![tactic(auto)]
 
+pub mod counting;
 pub mod namespaces;
 pub mod overlays_kept;
 pub mod overlays_made;

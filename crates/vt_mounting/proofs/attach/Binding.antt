@@ -3,6 +3,7 @@ use Rattle.std.proofs.Common.{◌≡◌, ◌<◌, refl, sym, ap, subst, ◌∙�
 use Rattle.vt_spec.proofs.Common.{Permit, TaskName, ToBind, World, among_from_contains, attach, bind_tree, common_steps, group_of, has_members, holds_of, is_among, is_located_well, is_member_of, length-map, list_all, mount_at, parts_of}
 use Rattle.vt_spec.specs.Machine.Mounts as meant
 use Rattle.vt_mounting.proofs.Common.{Among, CountsItsMounts, Filesystems, Grouping, HasGroup, IsCounted, IsHeld, IsSeen, KeepsTo, MountEntry, OneNumberAMount, WorldValue, all_in_use, among_from_all, any_from_among, are_ascending, counted, counts_from, found_is_there, inodes_seen, is_counted_before, location_of, mount_of, mounts_in, mounts_of_worlds_stand, parts_apart, planned_copies, world_of, worlds_have_trees}
+use Rattle.vt_world.proofs.counting.Lowered.{counts_there}
 use Rattle.vt_laws_mounts.proofs.counts.using.MountRoots as Roots
 use Rattle.vt_laws_mounts.proofs.letting_go.mounting.AttachedSwept.{binds_keep_all}
 use Rattle.vt_location.specs.declared.locations.Location.{Location}
@@ -39,7 +40,7 @@ same_base value whole = record {
   rise = whole.overlays.all_rise;
   inodes = λ entry m. subst (λ f. IsCounted (world_of value) f (inodes_seen entry))
       (sym (found_plain_one value whole entry m))
-      (among_from_all (CountsItsMounts (world_of value)) value.filesystems whole.filesystems entry m).inodes;
+      (counts_there value whole entry m);
   mounts = λ entry m. (among_from_all
       (CountsItsMounts (world_of value)) value.filesystems whole.filesystems entry m).mounts;
 }

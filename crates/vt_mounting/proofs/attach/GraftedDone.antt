@@ -3,6 +3,7 @@
 use Rattle.std.proofs.Common.{◌≡◌, refl, sym, ap, subst, ◌∙◌, ⊎_elim, inl, inr, ℕ, ◌+◌, nat_eq, Bool, true, false, true≢false, cond, List, [], ◌∷◌, ◌++◌, map, filter, Option, is_some, arith, All}
 use Rattle.vt_spec.proofs.Common.{Copies, Filesystem, Fresh, IsWorld, Permit, Propagation, SameWorlds, TaskName, World, attach, attached_by, copies_from, filesystem_numbered, folded, has_its_root, has_members, is_among, is_overlay, list_all, map_twice, masters_with, parts_of}
 use Rattle.vt_mounting.proofs.Common.{Among, AttachesBy, CountsItsMounts, CountsItsUses, CountsWhatIsInIt, FilesystemEntry, Filesystems, Grouping, Grows, Has, HasOwnInodes, HasOwnNodes, Inode, InodesInUse, IsCounted, IsHeld, IsMountedSoOften, IsUnderWay, KeepsTo, MountEntry, OverlaysAreNamed, OverlaysHaveNoUpper, Shown, WorldValue, WritersHaveLayers, all_from_among, among-append, among-from_map, among-map, among_from_all, any_same_worlds_are_worlds, any_same_worlds_keep_to_numbers, are_ascending, are_rising, counted, exchanged, filesystem_seen, filesystems_seen, has_only_named, inodes_seen, is_counted_before, layer_count, location_of, master_in, mount_of, mounts_entered, mounts_in, mounts_showing, moved_by, new_group, no_upper_is_in_any, numbers_at, overlays_seen, same_worlds_have_layers_alike, shown, shown_entry, times, times_append, typed, uses_are_exchanged_beside_overlays, with_kind, world_of, woven_lists_are_failing}
+use Rattle.vt_world.proofs.counting.Lowered.{counted_lowered}
 use Rattle.vt_laws_mounts.specs.LettingGo.InUse.{HasTrees}
 use Rattle.vt_laws_worlds.specs.OverlaysStay.Woven.{ArePartedBy}
 use Rattle.vt_laws_worlds.proofs.overlays_stay.weaving.WovenLists.{woven_lists_are_passing}
@@ -329,8 +330,11 @@ module _ {value : WorldValue} {base : Filesystems} (is_base : IsBase value base)
       mounts = counts_then.uses;
       filesystems = all_from_among (CountsItsMounts (world_of new)) filesystems (λ entry m. record {
         mounts = counts_then.mounts entry m;
-        inodes = shown_is_counted (shows has is_world) is_world entry m
-            (any_same_worlds_are_worlds entered_world (world_of new) same is_world);
+        inodes = counted_lowered (world_of new)
+            (any_same_worlds_are_worlds entered_world (world_of new) same is_world)
+            (same_worlds_have_no_upper_alike entered_world (world_of new) same no_upper_then) (filesystem_seen entry)
+            (inodes_seen entry) (shown_is_counted (shows has is_world) is_world entry m
+            (any_same_worlds_are_worlds entered_world (world_of new) same is_world));
       });
       own_inodes = all_from_among HasOwnInodes filesystems own_then;
       overlays = record {

@@ -3,6 +3,7 @@ use Rattle.std.proofs.Common.{◌≡◌, ◌⊎◌, refl, sym, ap, subst, ◌∙
 use Rattle.vt_spec.proofs.Common.{All-head, All-tail, Filesystem, Fresh, IsWorld, Layer, Location, MountFlags, Overlay, TaskName, ToMountPlain, World, all_locations, and_parts, attach, common_steps, filesystem_numbered, group_of, has_its_root, has_layer_on, is_among, is_directory_at, is_directory_node, is_directory_under, is_located_well, is_overlay, is_plain_layer, layers_in, layers_of, list_all, list_all-append, list_any, located_in, map-append, mount_at, mounted, named_in, new_mount, new_plain, no_filesystem, objects_of_overlay, odds, of_overlay, overlay_or, parts_of, plain_filesystem, receivers, receivers_of, receives, root_attr, takes_part, used_in}
 use Rattle.vt_spec.specs.Machine.Mounts as meant
 use Rattle.vt_mounting.proofs.Common.{Among, CountsItsMounts, FilesystemEntry, Filesystems, InodesInUse, IsCounted, IsHeld, IsNew, OverlaysHaveNoUpper, WorldValue, all_from_among, all_in_use, among-append, among-append_left, among-append_right, among-filter_map, among-from_filter, among-from_map, among_from_all, among_from_list_all, among_numbers, are_rising, counted, directory_is_there, filesystem_seen, filesystems_seen, filter_alike, found_filesystem, found_itself, handed_from, inode_number, inodes_seen, is_inode_used, is_on, layer_count, layers_among, list_all_from_among, mounts_in, mounts_of_worlds_stand, mounts_showing, no_upper_is_in_any, none_among, none_from_among, overlays_seen, places_of, put_in, times, times_append, uses_are_exchanged_beside_overlays, world_of, worlds_have_trees, woven}
+use Rattle.vt_world.proofs.counting.Lowered.{counts_there}
 use Rattle.vt_laws_mounts.specs.Counts.Using.{is_outside, one_counted}
 use Rattle.vt_laws_mounts.proofs.counts.overlays.FilesystemUses.{new_tree_is_counted_beside_overlays, plain_ones_use_nothing}
 use Rattle.vt_laws_mounts.proofs.counts.using.MountRoots as Roots
@@ -242,7 +243,7 @@ module _ {value : WorldValue} (whole : IsHeld value) {name : TaskName} {place : 
         (let low = filesystem_counted value whole was m in ne_eqb (counted value.next) (counted was.count)
         (λ same. absurd (omega (arith, low, same)))))) (subst (λ f. IsCounted world f (inodes_seen was))
         (sym (found_plain_one value whole was m))
-        (among_from_all (CountsItsMounts world) value.filesystems whole.filesystems was m).inodes) refl
+        (counts_there value whole was m)) refl
 
     -- no overlay has a layer in the new one
     no_layer : All (λ merged. has_layer_on nat_eq (counted value.next) merged ≡ false) middle.filesystems

@@ -1,7 +1,8 @@
 -- The uses that the layers of a new overlay are, in the code's world with that overlay, whatever mounts show.
 use Rattle.std.proofs.Common.{◌≡◌, refl, sym, ap, subst, ◌∙◌, ⊎_elim, ℕ, suc, ◌+◌, nat_eq, eqb-true, Bool, true, false, cond, not, ◌||◌, List, [], ◌∷◌, ◌++◌, map, filter, flat_map, Option, Some, is_some, None, unwrap_or, arith, slice_get, ne_eqb, append-nil, append_assoc, map-id}
 use Rattle.vt_spec.proofs.Common.{Filesystem, Layer, World, common_steps, filesystem_numbered, folded, is_directory_node, layers_in, layers_of, located_in, map-append, map_alike, map_twice, named_in, no_filesystem, node_in, objects_of_overlay, of_overlay}
-use Rattle.vt_mounting.proofs.Common.{Among, AreLayers, AreThere, CountsItsMounts, Exchanges, FilesystemEntry, Filesystems, Inode, IsCounted, IsHeld, OverlaysHaveNoUpper, Shown, WorldValue, all_in_use, among-from_map, among_from_all, counted, counted_same, directory_is_there, entry_of, exchanged, inode_of, inode_uses, inodes_seen, is_inode, layer_count, layer_seen, list_all_from_among, no_entry, no_upper_is_in_any, number_numbered, overlay_of_store, overlay_seen, pinned_if, shown, times, times_append, uses_are_exchanged_beside_overlays, world_of, worlds_have_trees}
+use Rattle.vt_mounting.proofs.Common.{Among, AreLayers, AreThere, Exchanges, FilesystemEntry, Filesystems, Inode, IsCounted, IsHeld, OverlaysHaveNoUpper, Shown, WorldValue, all_in_use, among-from_map, counted, counted_same, directory_is_there, entry_of, exchanged, inode_of, inode_uses, inodes_seen, is_inode, layer_count, layer_seen, list_all_from_among, no_entry, no_upper_is_in_any, number_numbered, overlay_of_store, overlay_seen, pinned_if, shown, times, times_append, uses_are_exchanged_beside_overlays, world_of, worlds_have_trees}
+use Rattle.vt_world.proofs.counting.Lowered.{counts_there}
 use Rattle.vt_overlay.specs.declared.merge.layers.LayerRef.{LayerRef}
 use Rattle.vt_store.specs.OverlaysValue as stored
 use Rattle.vt_mounting.specs.Detach.Stored.{layer_of}
@@ -190,7 +191,7 @@ module _ {value : WorldValue} {base : Filesystems} {entry : stored.OverlayEntry}
       (counted was.count)
       (apart_from_it was m)))
       (subst (λ f. IsCounted world f (inodes_seen was)) (sym (found_plain_one value whole was m))
-      (among_from_all (CountsItsMounts world) value.filesystems whole.filesystems was m).inodes) (layers_there was m)
+      (counts_there value whole was m)) (layers_there was m)
 
 pub held_each : (layers : List Inode) (all : List Shown) → folded with_layer all layers ≡ map (held_by layers) all
 held_each [] all = sym (map-id all)

@@ -5,6 +5,7 @@ use Rattle.vt_spec.specs.declared.attributes.Attr.{Attr}
 use Rattle.vt_spec.specs.Machine.World as meant
 use Rattle.vt_spec.specs.Tree.{tree_of_root}
 use Rattle.vt_mounting.proofs.Common.{ChangesInodes, CountsItsMounts, CountsItsUses, CountsWhatIsInIt, FilesystemEntry, Filesystems, Grouping, Has, HasOwnInodes, IsCounted, IsHeld, IsNew, KeepsTo, MountEntry, NamespaceEntry, Shown, WorldValue, counted, filesystem_seen, has_only_named, inode_number, inodes_seen, is_counted_before, is_own_number, layer_count, location_of, mount_of, mounts_in, mounts_showing, namespace_of, no_groups, numbers_listed, numbers_seen, shown, shown_entry, with_changed, world_of}
+use Rattle.vt_world.proofs.counting.Lowered.{counted_lowered}
 use Rattle.vt_laws_mounts.specs.Counts.Using.{one_counted, root_counted}
 use Rattle.vt_laws_mounts.proofs.counts.using.Places.{opening_is_counted}
 use Rattle.vt_laws_rules.proofs.numbers.Supports.{opening_keeps_to_four}
@@ -171,10 +172,14 @@ module _ (entry : FilesystemEntry) (counts : entry.count ≡ 2)
         (All-cons (CountsItsMounts (opening nat_eq opening_numbers)) entry [] (record {
           mounts = mounts ∙ ap (λ count. mounts_showing (opening nat_eq opening_numbers) (counted count)
               + layer_count (opening nat_eq opening_numbers) (counted count)) (sym counts);
-          inodes = subst (λ (all : Inodes ℕ). IsCounted (opening nat_eq opening_numbers)
-              (filesystem_seen entry) all) (sym inodes)
-              (subst (λ (filesystem : Filesystem ℕ). IsCounted (opening nat_eq opening_numbers) filesystem
-              (one_counted (inode_number 2 0) 4)) (sym seen) (opening_is_counted opening_numbers));
+          inodes = counted_lowered (opening nat_eq opening_numbers)
+              (opening_is_a_world opening_numbers numbers_apart).0
+              (All-cons (λ (filesystem : Filesystem ℕ).
+              of_overlay false (λ overlay. is_some overlay.upper) filesystem ≡ false) _ [] refl (All-nil _))
+              (filesystem_seen entry) (inodes_seen entry)
+              (subst (λ (all : Inodes ℕ). IsCounted (opening nat_eq opening_numbers) (filesystem_seen entry) all)
+              (sym inodes) (subst (λ (filesystem : Filesystem ℕ). IsCounted (opening nat_eq opening_numbers) filesystem
+              (one_counted (inode_number 2 0) 4)) (sym seen) (opening_is_counted opening_numbers)));
         }) (All-nil _));
     own_inodes = All-cons HasOwnInodes entry [] (own entry counts inodes) (All-nil _);
     overlays = record {

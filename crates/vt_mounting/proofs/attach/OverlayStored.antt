@@ -1,7 +1,7 @@
 -- After the mount of an overlay a store shows its overlays as they were, and the new one as its layers showed it before.
-use Rattle.std.proofs.Common.{◌≡◌, refl, sym, ap, subst, ◌∙◌, ⊎_elim, ℕ, nat_eq, nat_lt, ltb-true, lt-ltb, true, false, ◌||◌, List, [], ◌∷◌, ◌++◌, filter, length, map, Option, None, arith, All, ne_eqb}
-use Rattle.vt_spec.proofs.Common.{Filesystem, SameFilesystems, and_parts, any_pair, common_steps, is_overlay, length_permutation, list_all, list_any, map-append, map_alike, of_overlay}
-use Rattle.vt_mounting.proofs.Common.{Among, AreLayers, Filesystems, IsHeld, OverlayEntry, StoreValue, WorldValue, all_from_among, among-append, among-map, are_rising, counted, filesystems_seen, found_by_number, found_same, list_all_from_among, overlay_of_store, overlay_seen, overlays_of_store, overlays_seen, shown, with_store, world_of, woven, woven_lists_are_failing}
+use Rattle.std.proofs.Common.{◌≡◌, refl, sym, ap, subst, ◌∙◌, ℕ, nat_eq, nat_lt, ltb-true, lt-ltb, true, false, ◌||◌, List, [], ◌∷◌, ◌++◌, filter, length, map, arith, All, ne_eqb}
+use Rattle.vt_spec.proofs.Common.{Filesystem, SameFilesystems, and_parts, any_pair, common_steps, is_overlay, length_permutation, list_all, list_any, map-append, map_alike}
+use Rattle.vt_mounting.proofs.Common.{Filesystems, IsHeld, OverlayEntry, StoreValue, WorldValue, all_from_among, are_rising, counted, filesystems_seen, found_by_number, found_same, list_all_from_among, overlay_of_store, overlay_seen, overlays_of_store, overlays_seen, shown, with_store, world_of, woven, woven_lists_are_failing}
 use Rattle.vt_overlay.specs.declared.merge.layers.LayerRef.{LayerRef}
 use Rattle.vt_store.specs.Laws.{IsSameLayer}
 use Rattle.vt_layered.proofs.StayingKinds.{layered_stay}
@@ -10,9 +10,8 @@ use Rattle.vt_world.proofs.overlays_kept.inodes.InodesAbove.{layered_inodes_stay
 use Rattle.vt_store.specs.OverlaysValue as stored
 use Rattle.vt_mounting.specs.Detach.Stored.{OverlaysStay, layer_of, merged_of}
 use Rattle.vt_mounting.specs.Detach.Uses.{overlays_kept}
-use Rattle.vt_mounting.proofs.detach.LayersShown.{layers_shown_well}
 use Rattle.vt_mounting.proofs.detach.Overlaid.{files_are_plain, is_plain_one}
-use Rattle.vt_mounting.proofs.detach.OverlaysListed.{AreApart, kept_by, left_still, were_there}
+use Rattle.vt_mounting.proofs.detach.OverlaysListed.{AreApart, kept_by, left_still}
 use Rattle.vt_mounting.proofs.detach.PlainFound.{overlay_among}
 use Rattle.vt_mounting.proofs.attach.NewBase.{rising_last}
 use Rattle.vt_mounting.proofs.attach.NewFilesystems.{number_below}

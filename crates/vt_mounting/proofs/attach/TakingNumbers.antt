@@ -2,7 +2,8 @@
 -- takes.
 use Rattle.std.proofs.Common.{◌≡◌, ℕ, ◌+◌, ◌%◌, nat_eq, length, ◌*◌, Some}
 use Rattle.vt_spec.proofs.Common.{IsWorld, Permit, Task, TaskName, ToUnshare, mounts_of, task_called}
-use Rattle.vt_mounting.proofs.Common.{Among, CountsItsMounts, FilesystemEntry, HasOwnInodes, IsGiven, IsHeld, KeepsTo, OverlaysHaveNoUpper, WorldValue, all_from_among, any_same_worlds_are_worlds, any_same_worlds_keep_to_numbers, given_permits_give_no_upper, inodes_seen, is_counted_before, overlays_seen, same_worlds_have_layers_alike, world_of}
+use Rattle.vt_mounting.proofs.Common.{Among, CountsItsMounts, FilesystemEntry, HasOwnInodes, IsGiven, IsHeld, KeepsTo, OverlaysHaveNoUpper, WorldValue, all_from_among, any_same_worlds_are_worlds, any_same_worlds_keep_to_numbers, filesystem_seen, given_permits_give_no_upper, inodes_seen, is_counted_before, overlays_seen, same_worlds_have_layers_alike, world_of}
+use Rattle.vt_world.proofs.counting.Lowered.{counted_lowered}
 use Rattle.vt_laws_worlds.specs.Permits.Taken.{handed_to}
 use Rattle.vt_mounting.proofs.detach.Writers.{left_writers}
 use Rattle.vt_mounting.specs.Detach.Events.{left_by, supply_of}
@@ -36,6 +37,10 @@ module _ {value : WorldValue} (whole : IsHeld value) {name : TaskName} {permit :
   numbers_are_kept {new} same_overlays shows counts own keeps =
       let same = shown_is_same shows left_is_world.0 in
       let world = any_same_worlds_are_worlds (left_by value task permit) (world_of new) same left_is_world.0 in
+      let overlays = overlays_hold_still new whole.overlays same_overlays
+      (same_files_rise (left_by value task permit).filesystems (world_of new).filesystems same.filesystems shows.rise)
+      counts.overlays (same_worlds_have_layers_alike (left_by value task permit) (world_of new) same
+      (left_writers value whole task permit takes.given)) in
       record {
         held = record {
           in_world = world;
@@ -45,13 +50,11 @@ module _ {value : WorldValue} (whole : IsHeld value) {name : TaskName} {permit :
           mounts = counts.uses;
           filesystems = all_from_among (CountsItsMounts (world_of new)) new.filesystems (λ entry m. record {
             mounts = counts.mounts entry m;
-            inodes = shown_is_counted shows left_is_world.0 entry m world;
+            inodes = counted_lowered (world_of new) world overlays.read_only (filesystem_seen entry) (inodes_seen entry)
+                (shown_is_counted shows left_is_world.0 entry m world);
           });
           own_inodes = all_from_among HasOwnInodes new.filesystems own;
-          overlays = overlays_hold_still new whole.overlays same_overlays
-              (same_files_rise (left_by value task permit).filesystems (world_of new).filesystems same.filesystems
-              shows.rise) counts.overlays (same_worlds_have_layers_alike (left_by value task permit) (world_of new) same
-              (left_writers value whole task permit takes.given));
+          overlays = overlays;
           namespaces = counts.namespaces;
         };
         becomes = becomes_so value name permit new task takes.called same;

@@ -3,7 +3,8 @@
 -- sweep says, the code's world is the one that the sweep leaves, and counts what is in it.
 use Rattle.std.proofs.Common.{true, ◌≡◌, sym, subst, ◌∙◌, ℕ, nat_eq, List, filter, map}
 use Rattle.vt_spec.proofs.Common.{IsWorld, SameWorlds, World, filesystem_numbered, is_mounted, settled, without_changes}
-use Rattle.vt_mounting.proofs.Common.{Among, AreThere, CountsItsMounts, Exchanges, FilesystemEntry, Has, Inode, IsCounted, IsHeld, WorldValue, all_in_use, among_from_all, are_rising, counted, exchanged, filesystem_seen, in_use_of, inodes_seen, mounts_in, no_upper_is_in_any, overlays_seen, world_of, worlds_have_trees}
+use Rattle.vt_mounting.proofs.Common.{Among, AreThere, Exchanges, FilesystemEntry, Has, Inode, IsCounted, IsHeld, WorldValue, all_in_use, are_rising, counted, exchanged, filesystem_seen, in_use_of, inodes_seen, mounts_in, no_upper_is_in_any, overlays_seen, world_of, worlds_have_trees}
+use Rattle.vt_world.proofs.counting.Lowered.{counts_there}
 use Rattle.vt_laws_mounts.proofs.counts.using.Sweeps.{uses_are_swept_beside_overlays}
 use Rattle.vt_mounting.proofs.detach.BesideOverlays.{swept_overlays}
 use Rattle.vt_mounting.proofs.detach.Overlaid.{KeepsOverlays, found_plain_one, is_plain_one, no_upper_midway, plain_numbers_left, swept_rise}
@@ -42,8 +43,7 @@ module _ (old : WorldValue) (held : IsHeld old) (after : World ℕ) (gained lost
       → IsCounted left (filesystem_numbered nat_eq left (counted entry.count)) (inodes_seen entry)
   counted_left entry m =
       let from = swept.entries entry m in
-      let was_counted = (among_from_all
-      (CountsItsMounts (world_of old)) old.filesystems held.filesystems from.was from.among).inodes in
+      let was_counted = counts_there old held from.was from.among in
       subst (λ count. IsCounted left (filesystem_numbered nat_eq left (counted count)) (inodes_seen entry))
       (sym from.count)
       (subst (IsCounted left (filesystem_numbered nat_eq left (counted from.was.count))) (sym from.inodes)

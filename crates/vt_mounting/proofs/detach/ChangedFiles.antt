@@ -7,6 +7,8 @@ use Rattle.vt_spec.specs.Inodes.{changed}
 use Rattle.vt_laws_mounts.specs.Counts.BesideOverlays.{IsChangeOfPlain}
 use Rattle.vt_laws_mounts.specs.Counts.Changing.{LinksWhatIsThere, after_change, filesystem_of}
 use Rattle.vt_mounting.proofs.Common.{Among, ChangesInodes, CountsItsMounts, CountsItsUses, CountsWhatIsInIt, FilesystemEntry, Filesystems, HasOwnInodes, IsCounted, IsHeld, KeepsTo, Shown, WorldValue, WritersHaveLayers, all_from_among, among_from_all, any_same_worlds_count_alike, any_same_worlds_keep_to_numbers, are_rising, counted, counted_same, counted_test, entry_of, filesystem_seen, filesystems_seen, found_filesystem, inodes_seen, is_counted_before, is_own_number, layer_count, mounts_showing, numbers_apart_each, numbers_listed, numbers_seen, overlays_seen, permit_named, permits_keep_to_numbers, same_numbers_are_permuted, same_worlds_have_layers_alike, sameness_is_an_equivalence, shown_entry, world_of, woven_lists_are_alike}
+use Rattle.vt_world.specs.Held.{HoldsOverlays}
+use Rattle.vt_world.proofs.counting.Lowered.{counted_lowered, counts_there}
 use Rattle.vt_laws_mounts.proofs.counts.changing.Changes.{counts_follow_changes_beside_overlays, only_files_change_beside_overlays, other_counts_stay_beside_overlays}
 use Rattle.vt_laws_mounts.proofs.counts.changing.SameAfter.{counted_changes_are_swept_beside_overlays}
 use Rattle.vt_laws_mounts.proofs.counts.using.Exchanged.{numbers_mapped}
@@ -144,8 +146,7 @@ module _ (value : WorldValue) (held : IsHeld value) (location : Location ℕ) (c
     in_world = held.in_world;
     plain = ap is_overlay filesystem_is;
     counted = subst (λ f. IsCounted (world_of value) f (inodes_seen made.entry)) (sym filesystem_is)
-        (among_from_all (CountsItsMounts
-        (world_of value)) value.filesystems held.filesystems made.entry made.among).inodes;
+        (counts_there value held made.entry made.among);
     fits = made.fits;
     links = made.links;
   }
@@ -267,7 +268,7 @@ module _ (value : WorldValue) (held : IsHeld value) (location : Location ℕ) (c
           (counted was.count) (inodes_seen was)
           (λ same. true≢false (sym (eq-eqb count was.count (counted_same count was.count (sym (same ∙ made.shows))))
           ∙ e)) (subst (λ f. IsCounted (world_of value) f (inodes_seen was)) (sym (found_plain_one value held was m))
-          (among_from_all (CountsItsMounts (world_of value)) value.filesystems held.filesystems was m).inodes))
+          (counts_there value held was m)))
 
   own_after : (entry : FilesystemEntry) → Among entry filesystems → HasOwnInodes entry
   own_after entry m number other = by (nat_eq count source.was.count) refl source.is.inodes_are
@@ -306,19 +307,17 @@ module _ (value : WorldValue) (held : IsHeld value) (location : Location ℕ) (c
           mounts = source.is.mounts_are ∙ was.mounts ∙ ap (λ n. mounts_of_filesystem n) (sym source.is.count_is)
               ∙ ap (λ layers. mounts_showing (world_of value) (counted entry.count) + layers)
               (sym (layers_kept value new held.overlays refl (counted entry.count)));
-          inodes = subst (λ f. IsCounted (world_of new) f (inodes_seen entry))
+          inodes = counted_lowered (world_of new) is overlays_then.read_only (filesystem_seen entry) (inodes_seen entry)
+              (subst (λ f. IsCounted (world_of new) f (inodes_seen entry))
               (found_filesystem (world_of new).filesystems is.files.one_filesystem (filesystem_seen entry)
               (plain_one_among new held.overlays.merged entry m))
               (subst (λ n. IsCounted (world_of new) (filesystem_numbered nat_eq (world_of new) (counted n))
               (inodes_seen entry)) (sym source.is.count_is)
               (any_same_worlds_count_alike (after fresh) (world_of new) (counted source.was.count) (inodes_seen entry)
-              (change_is_swept fresh) (counted_then source.among source.is)));
+              (change_is_swept fresh) (counted_then source.among source.is))));
         });
     own_inodes = all_from_among HasOwnInodes filesystems own_after;
-    overlays = overlays_hold_still new held.overlays refl (same_files_rise
-        (with_tree (world_of value) (filesystem_of (world_of value) location) (files_seen partner.entry)).filesystems
-        (world_of new).filesystems same_with_tree.filesystems rising_with_tree)
-        (overlays_counted value new held.overlays refl (λ number. refl)) writers;
+    overlays = overlays_then;
     namespaces = all_from_among (CountsWhatIsInIt (world_of new)) value.namespaces (λ entry m.
         let was = among_from_all (CountsWhatIsInIt (world_of value)) value.namespaces held.namespaces entry m in
         record { tasks = was.tasks });
@@ -335,6 +334,12 @@ module _ (value : WorldValue) (held : IsHeld value) (location : Location ℕ) (c
           (map (replaced_if_numbered nat_eq put) (world_of value).filesystems)
           (numbers_mapped (replaced_if_numbered nat_eq put) numbers_kept (world_of value).filesystems)
           held.overlays.all_rise)
+
+      overlays_then : HoldsOverlays new
+      overlays_then = overlays_hold_still new held.overlays refl (same_files_rise
+          (with_tree (world_of value) (filesystem_of (world_of value) location) (files_seen partner.entry)).filesystems
+          (world_of new).filesystems same_with_tree.filesystems rising_with_tree)
+          (overlays_counted value new held.overlays refl (λ number. refl)) writers
 
 -- an event that leaves the invariants and does what its permit says
 pub record IsFilesEvent (value : WorldValue) (name : TaskName) (permit : Permit ℕ) (new : WorldValue) : Type 0 where

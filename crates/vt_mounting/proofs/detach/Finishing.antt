@@ -1,7 +1,8 @@
 -- The end of an event: the world that the sweep leaves has its invariants, and counts what is in it.
 use Rattle.std.proofs.Common.{◌≡◌, refl, sym, subst, ℕ, nat_eq, Bool, true, false, cond, List, [], ◌∷◌, Some, ◌+◌, All}
 use Rattle.vt_spec.proofs.Common.{Fresh, Inodes, IsWorld, Permit, SameWorlds, Task, TaskName, World, apply, folded, is_mounted, pinned, settled, task_called, unpinned}
-use Rattle.vt_mounting.proofs.Common.{Among, CountsItsMounts, CountsItsUses, CountsWhatIsInIt, FilesystemEntry, Has, HasOwnInodes, Inode, IsGiven, IsHeld, IsMountedSoOften, KeepsTo, WorldValue, WritersHaveLayers, all_from_among, among_from_all, any_same_worlds_are_worlds, any_same_worlds_keep_to_numbers, counted, exchanged, given_permits_give_no_upper, in_use_of, inodes_seen, is_counted_before, layer_count, mounts_showing, permit_named, permits_keep_to_numbers, pinned_if, same_worlds_have_layers_alike, unpinned_if, world_of}
+use Rattle.vt_mounting.proofs.Common.{Among, CountsItsMounts, CountsItsUses, CountsWhatIsInIt, FilesystemEntry, Has, HasOwnInodes, Inode, IsGiven, IsHeld, IsMountedSoOften, KeepsTo, WorldValue, WritersHaveLayers, all_from_among, among_from_all, any_same_worlds_are_worlds, any_same_worlds_keep_to_numbers, counted, exchanged, filesystem_seen, given_permits_give_no_upper, in_use_of, inodes_seen, is_counted_before, layer_count, mounts_showing, permit_named, permits_keep_to_numbers, pinned_if, same_worlds_have_layers_alike, unpinned_if, world_of}
+use Rattle.vt_world.proofs.counting.Lowered.{counted_lowered}
 use Rattle.vt_mounting.proofs.detach.Writers.{left_writers}
 use Rattle.vt_mounting.specs.Detach.Events.{supply_of}
 use Rattle.vt_mounting.proofs.detach.OwnInodesKept.{IsOwn, own_pinned, own_unpinned}
@@ -64,6 +65,11 @@ module _ (value : WorldValue) (whole : IsHeld value) (next : World ℕ)
   swept_held gained lost new swept has counts keeps writers =
       let same = swept_is_same value whole next gained lost new swept has left in
       let world = any_same_worlds_are_worlds (settled nat_eq next) (world_of new) same left in
+      let overlays = fewer_overlays_hold new whole.overlays
+      (λ overlay. is_mounted nat_eq (in_use_of next) overlay.number) swept.overlays
+      (same_files_rise (settled nat_eq next).filesystems (world_of new).filesystems same.filesystems
+      (rise_left value whole next gained lost new swept has left)) counts.overlays
+      (same_worlds_have_layers_alike (settled nat_eq next) (world_of new) same writers) in
       record {
         in_world = world;
         groups = swept_has value whole next gained lost new swept has left;
@@ -71,18 +77,15 @@ module _ (value : WorldValue) (whole : IsHeld value) (next : World ℕ)
         mounts = counts.uses;
         filesystems = all_from_among (CountsItsMounts (world_of new)) new.filesystems (λ entry m. record {
           mounts = counts.mounts entry m;
-          inodes = swept_is_counted value whole next gained lost new swept has left entry m world;
+          inodes = counted_lowered (world_of new) world overlays.read_only (filesystem_seen entry) (inodes_seen entry)
+              (swept_is_counted value whole next gained lost new swept has left entry m world);
         });
         own_inodes = all_from_among HasOwnInodes new.filesystems (λ entry m. let from = swept.entries entry m in
             subst (λ count. IsOwn count (inodes_seen entry)) (sym from.count)
             (subst (IsOwn from.was.count) (sym from.inodes)
             (own_exchanged from.was.count gained lost (inodes_seen from.was)
             (among_from_all HasOwnInodes value.filesystems whole.own_inodes from.was from.among))));
-        overlays = fewer_overlays_hold new whole.overlays
-            (λ overlay. is_mounted nat_eq (in_use_of next) overlay.number) swept.overlays
-            (same_files_rise (settled nat_eq next).filesystems (world_of new).filesystems same.filesystems
-            (rise_left value whole next gained lost new swept has left)) counts.overlays
-            (same_worlds_have_layers_alike (settled nat_eq next) (world_of new) same writers);
+        overlays = overlays;
         namespaces = counts.namespaces;
       }
 

@@ -1,6 +1,6 @@
 -- Overlays of a store that have no upper layer: what they hold, show and lend.
 use Rattle.std.proofs.Common.{◌≡◌, refl, sym, ap, subst, false, nat_eq, true, true≢false, not, List, [], ◌∷◌, drop, is_some, map, Option, Some, None, option_map, slice_get, ℕ}
-use Rattle.vt_spec.proofs.Common.{FileTree, Filesystem, Layer, Node, Real, is_empty_list, layers_of, none_is_some, objects_of_overlay, real_of}
+use Rattle.vt_spec.proofs.Common.{Filesystem, is_empty_list, layers_of, none_is_some, objects_of_overlay, real_of}
 use Rattle.vt_mounting.proofs.Common.{Filesystems, OverlayEntry, OverlayValue, counted, layer_seen, overlay_of_store, overlay_seen, with_objects}
 use Rattle.vt_layered.specs.LayeredValue.{Above, held_layers}
 use Rattle.vt_layered.specs.LayeredTree.{KeepsRight, layered_files, layered_lent, layered_objects, layered_seen}

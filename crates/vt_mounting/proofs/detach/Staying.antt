@@ -2,7 +2,8 @@
 use Rattle.std.proofs.Common.{◌≡◌, refl, sym, ap, subst, ◌∙◌, ℕ, nat_eq, eq-eqb, true, [], Some, arith, option_map, unwrap_or}
 use Rattle.vt_spec.proofs.Common.{Credentials, Filesystem, Fresh, IsWorld, Location, Permit, SameWorlds, Task, TaskName, ToSetCredentials, ToSetUmask, all_locations, apply, common_steps, located_in, locations_of, same_Some, settled, task_called, with_dropped, with_task}
 use Rattle.vt_spec.specs.Machine.World.{first_credentials}
-use Rattle.vt_mounting.proofs.Common.{CountsItsMounts, CountsItsUses, CountsWhatIsInIt, IsGiven, IsHeld, KeepsTo, Tasks, WorldValue, WritersHaveLayers, all_from_among, among_from_all, any_from_among, changed_by, changed_called, counted, filesystem_seen, given_permits_give_no_upper, inode_uses, is_counted_before, list_all_from_among, one_if, permit_named, permits_keep_to_numbers, replaced, sameness_is_an_equivalence, times, world_of, writes_of, writes_of_task, writes_on}
+use Rattle.vt_mounting.proofs.Common.{CountsItsMounts, CountsItsUses, CountsWhatIsInIt, IsGiven, IsHeld, KeepsTo, Tasks, WorldValue, WritersHaveLayers, all_from_among, among_from_all, any_from_among, changed_by, changed_called, counted, filesystem_seen, given_permits_give_no_upper, inode_uses, inodes_seen, is_counted_before, list_all_from_among, one_if, permit_named, permits_keep_to_numbers, replaced, sameness_is_an_equivalence, times, world_of, writes_of, writes_of_task, writes_on}
+use Rattle.vt_world.proofs.counting.Lowered.{counted_lowered, counts_there}
 use Rattle.vt_laws_mounts.specs.LettingGo.Leaving.{only_these_are_left}
 use Rattle.vt_laws_mounts.proofs.letting_go.sweeps.OfWorlds.{worlds_are_settled}
 use Rattle.vt_laws_mounts.proofs.letting_go.leaving.LeftWithOverlays.{staying_keeps_overlays}
@@ -46,15 +47,17 @@ module _ (value : WorldValue) (tasks : Tasks)
         });
     filesystems = all_from_among (CountsItsMounts (world_of (after value tasks))) value.filesystems (λ entry m.
         let was = among_from_all (CountsItsMounts
-        (world_of value)) value.filesystems held.filesystems entry m in record {
+        (world_of value)) value.filesystems held.filesystems entry m in
+        let inodes = counts_there value held entry m in record {
           mounts = was.mounts;
-          inodes = record {
-            root = was.inodes.root;
-            node = was.inodes.node;
-            uses = λ number. was.inodes.uses number ∙ same_uses (filesystem_seen entry) number;
-            count = was.inodes.count;
-            once = was.inodes.once;
-          };
+          inodes = counted_lowered (world_of (after value tasks)) is held.overlays.read_only (filesystem_seen entry)
+              (inodes_seen entry) (record {
+                root = inodes.root;
+                node = inodes.node;
+                uses = λ number. inodes.uses number ∙ same_uses (filesystem_seen entry) number;
+                count = inodes.count;
+                once = inodes.once;
+              });
         });
     own_inodes = held.own_inodes;
     overlays = record {

@@ -1,5 +1,5 @@
 -- After an event, a store shows the overlays that the world after it has: as they were.
-use Rattle.std.proofs.Common.{◌≡◌, refl, sym, ap, subst, ◌∙◌, ℕ, nat_eq, true, List, map, None, Some, All}
+use Rattle.std.proofs.Common.{◌≡◌, sym, ap, subst, ◌∙◌, ℕ, nat_eq, true, List, map, None, Some, All}
 use Rattle.vt_spec.proofs.Common.{Filesystem, Permit, SameWorlds, Task, World, filesystem_numbered, is_overlay, length_permutation, map_alike}
 use Rattle.vt_mounting.proofs.Common.{Among, Filesystems, IsGiven, IsHeld, IsShownAlike, OverlayValue, ShowsLayer, ShowsLayers, StoreValue, WorldValue, all_from_among, among-map, among_from_all, counted, found_filesystem, found_same, inodes_have_their_objects, inodes_stay, layer_seen, overlay_of_store, overlay_seen, with_objects, with_store, world_of}
 use Rattle.vt_world.proofs.overlays_kept.events.KeptOverlays.{kept_overlays_stay}

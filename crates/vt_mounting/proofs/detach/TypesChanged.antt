@@ -3,7 +3,8 @@
 -- MS_UNBINDABLE, and MS_REC. Whatever groups there are, the code's world is the one that the policy leaves.
 use Rattle.std.proofs.Common.{◌≡◌, refl, sym, ap, subst, ◌∙◌, ◌+◌, ℕ, nat_eq, Bool, true, false, cond, List, [], ◌∷◌, ◌++◌, map, filter, flat_map, Option, None, filter_map}
 use Rattle.vt_spec.proofs.Common.{Filesystem, IsWorld, Location, Mount, Propagation, SameWorlds, TaskName, ToSetType, TypeWord, World, all_locations, cons_option, has_members, layers_in, list_any, located_in, lost_a_group, map_twice, named_in, named_mounts, numbers_by, objects_of_overlay, regrouped, regrouped_by, retyped, retyped_mount, root_of, settled, shown-mapped, with_new_groups, without_dead_groups}
-use Rattle.vt_mounting.proofs.Common.{CountsItsMounts, CountsItsUses, CountsWhatIsInIt, Grouping, Has, IsHeld, KeepsTo, MountEntry, WorldValue, WritersHaveLayers, all_from_among, all_in_use, among-from_map, among_from_all, counted, counts_from, filesystem_seen, given_permits_give_no_upper, inode_uses, is_counted_before, layer_count, master_in, mounts_in, mounts_showing, numbers_of, peers_of, sameness_is_an_equivalence, times, world_of}
+use Rattle.vt_mounting.proofs.Common.{CountsItsMounts, CountsItsUses, CountsWhatIsInIt, Grouping, Has, IsCounted, IsHeld, KeepsTo, MountEntry, WorldValue, WritersHaveLayers, all_from_among, all_in_use, among-from_map, among_from_all, counted, counts_from, filesystem_seen, given_permits_give_no_upper, inode_uses, inodes_seen, is_counted_before, layer_count, master_in, mounts_in, mounts_showing, numbers_of, peers_of, sameness_is_an_equivalence, times, world_of}
+use Rattle.vt_world.proofs.counting.Lowered.{counted_lowered, counts_there}
 use Rattle.vt_group.specs.Grouping.{are_rising}
 use Rattle.vt_laws_mounts.specs.LettingGo.Detaching.{with_changed}
 use Rattle.vt_laws_mounts.specs.LettingGo.InUse.{GroupsInUse}
@@ -151,18 +152,23 @@ module _ {value : WorldValue} {group : ℕ → ℕ} {word : TypeWord} {named : L
         (record { uses = was.uses; writers = was.writers }));
     filesystems = all_from_among (CountsItsMounts (world_of (retyped_value next))) value.filesystems (λ entry m.
         let was = among_from_all (CountsItsMounts (world_of value)) value.filesystems whole.filesystems entry m in
-        subst (λ (world : World ℕ). CountsItsMounts world entry) (now_is next) (record {
-          mounts = was.mounts ∙ ap (λ showing. showing + layer_count (world_of value) (counted entry.count))
-              (sym (same_showing (world_of value) kind (master_in groups) (counted entry.count)));
-          inodes = record {
-            root = was.inodes.root;
-            node = was.inodes.node;
-            uses = λ number. was.inodes.uses number
-                ∙ sym (same_uses (world_of value) kind (master_in groups) (filesystem_seen entry) number);
-            count = was.inodes.count;
-            once = was.inodes.once;
-          };
-        }));
+        let inodes = counts_there value whole entry m in
+        record {
+          mounts = subst (λ (world : World ℕ). entry.mounts
+              ≡ mounts_showing world (counted entry.count) + layer_count world (counted entry.count)) (now_is next)
+              (was.mounts ∙ ap (λ showing. showing + layer_count (world_of value) (counted entry.count))
+              (sym (same_showing (world_of value) kind (master_in groups) (counted entry.count))));
+          inodes = counted_lowered (world_of (retyped_value next)) is whole.overlays.read_only (filesystem_seen entry)
+              (inodes_seen entry) (subst (λ (world : World ℕ). IsCounted world (filesystem_seen entry)
+              (inodes_seen entry)) (now_is next) (record {
+                root = inodes.root;
+                node = inodes.node;
+                uses = λ number. inodes.uses number
+                    ∙ sym (same_uses (world_of value) kind (master_in groups) (filesystem_seen entry) number);
+                count = inodes.count;
+                once = inodes.once;
+              }));
+        });
     own_inodes = whole.own_inodes;
     overlays = record {
       merged = whole.overlays.merged;

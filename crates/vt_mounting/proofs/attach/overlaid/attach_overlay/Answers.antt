@@ -29,11 +29,11 @@ returns-clause-ok c =
         points = c.deref-3.result.now;
         left = made.2;
         plan = λ world seen one_child parts.
-            subst (λ (list : List Mount). AttachesBy world c.args.graft.now c.args.counts (map mount_of list)
+            subst (λ (list : List Mount). AttachesBy world c.args.graft.now c.args.new.counts (map mount_of list)
             (map new_group c.deref-2.result.now) (map point_seen c.deref-3.result.now)) copies
-            (subst (λ (list : List NewGroup). AttachesBy world c.args.graft.now c.args.counts
+            (subst (λ (list : List NewGroup). AttachesBy world c.args.graft.now c.args.new.counts
             (map mount_of plan.copies.items) (map new_group list) (map point_seen c.deref-3.result.now)) groups
-            (subst (λ (list : List Point). AttachesBy world c.args.graft.now c.args.counts
+            (subst (λ (list : List Point). AttachesBy world c.args.graft.now c.args.new.counts
             (map mount_of plan.copies.items) (map new_group plan.groups.items) (map point_seen list)) points
             (c.in_ok-plan.ensures.ok world seen one_child parts)));
         once = subst (λ (list : List Point). MovesOnce (mounts_in c.args.mounts.now) (map point_seen list)) points

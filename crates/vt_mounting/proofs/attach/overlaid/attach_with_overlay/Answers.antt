@@ -4,7 +4,8 @@ use Rattle.vt_location.specs.Numbers.{most_counted}
 use Rattle.vt_mounting.proofs.Common.{Filesystems, Overlays, Shown, StoreValue, held_in, shown, with_layers, without_overlay}
 use Rattle.vt_location.specs.declared.locations.Location.{Location}
 use Rattle.vt_mount.specs.declared.moving.Moved.{Moved}
-use Rattle.vt_store.specs.LayersHeld.{HaveRoomFor, new_overlay}
+use Rattle.vt_store.specs.LayersHeld.{HaveRoomFor}
+use Rattle.vt_mounting.specs.Attach.Overlaid.{new_entry}
 use Rattle.vt_mounting.specs.Attach.Planned.{Point, left_of, pinned_by, points_taken, taken_of, unpinned_by}
 use Rattle.vt_mounting.specs.Attach.Room.{has_room, merged_has_room, point_has_room}
 use Rattle.vt_mounting.specs.Detach.Stored.{layer_of, merged_of}
@@ -16,12 +17,12 @@ use Rattle.vt_mounting.proofs.attach.overlaid.attach_with_overlay.Goals as goal
 
 pub hold_layers_of-requires : goal.hold_layers_of-requires
 hold_layers_of-requires c =
-    let e = new_overlay c.args.filesystem c.args.lowers.items c.args.mounter in
+    let e = new_entry c.args.new in
     let entered = c.in_ok-enter_overlay.ensures.ok in
-    let lowers : held_in c.enter_overlay.new.self c.args.filesystem.count ≡ c.args.lowers.items =
-    ap (λ (store : StoreValue). held_in store c.args.filesystem.count) entered
+    let lowers : held_in c.enter_overlay.new.self c.args.new.filesystem.count ≡ c.args.new.lowers.items =
+    ap (λ (store : StoreValue). held_in store c.args.new.filesystem.count) entered
     ∙ lowers_new c.args.store.now e c.requires.above in
-    let layers = held_in c.enter_overlay.new.self c.args.filesystem.count in
+    let layers = held_in c.enter_overlay.new.self c.args.new.filesystem.count in
     subst (λ (plain : Filesystems). HaveRoomFor (length layers) (shown plain) layers)
     (sym (ap (λ (store : StoreValue). store.plain) entered))
     (subst (λ list. HaveRoomFor (length list) (shown c.args.store.now.plain) list)
@@ -29,17 +30,17 @@ hold_layers_of-requires c =
 
 pub exchange_uses-requires-clause-points : goal.exchange_uses-requires-clause-points
 exchange_uses-requires-clause-points c =
-    let e = new_overlay c.args.filesystem c.args.lowers.items c.args.mounter in
+    let e = new_entry c.args.new in
     let plan = c.args.plan.now in
     let entered = c.in_ok-enter_overlay.ensures.ok in
-    let lowers : held_in c.enter_overlay.new.self c.args.filesystem.count ≡ c.args.lowers.items =
-    ap (λ (store : StoreValue). held_in store c.args.filesystem.count) entered
+    let lowers : held_in c.enter_overlay.new.self c.args.new.filesystem.count ≡ c.args.new.lowers.items =
+    ap (λ (store : StoreValue). held_in store c.args.new.filesystem.count) entered
     ∙ lowers_new c.args.store.now e c.requires.above in
-    let layers = map layer_of c.args.lowers.items in
+    let layers = map layer_of c.args.new.lowers.items in
     let all = folded with_layer (shown c.args.store.now.plain) layers in
     let uses : shown c.plain_mut.result.now ≡ all = ap shown c.plain_mut.ensures.value ∙ c.hold_layers_of.ensures.held
     ∙ (λ i. with_layers (lowers i) (shown (entered i).plain))
-    ∙ layers_more c.args.lowers.items (shown c.args.store.now.plain) in
+    ∙ layers_more c.args.new.lowers.items (shown c.args.store.now.plain) in
     let moved = c.deref-in-Ok.result.now in
     let taken = points_taken plan.points.now c.args.mounts.now in
     let less = most_counted - (2 * length plan.copies.now + length plan.points.now + c.len.result) in
@@ -47,7 +48,7 @@ exchange_uses-requires-clause-points c =
     let few = taken_few plan.points.now c.args.mounts.now in
     let are : taken_of moved ≡ taken = ap taken_of c.deref-in-Ok.ensures.value ∙ c.in-Ok.ensures.moves.taken_are in
     let many : length moved ≡ length taken = sym (length-map moved (λ (one : Moved). one.to)) ∙ ap length are in
-    let as_many : length layers ≡ length c.args.lowers.items = length-map c.args.lowers.items layer_of in
+    let as_many : length layers ≡ length c.args.new.lowers.items = length-map c.args.new.lowers.items layer_of in
     let sum = c.if-not-plan_has_room.ensures.fits refl in
     let beside = c.len.ensures in
     let fits : less + length layers ≤ middle = omega (arith, as_many, sum, beside) in
@@ -62,22 +63,22 @@ exchange_uses-requires-clause-points c =
 
 pub exchange_uses-requires-clause-copies : goal.exchange_uses-requires-clause-copies
 exchange_uses-requires-clause-copies c =
-    let e = new_overlay c.args.filesystem c.args.lowers.items c.args.mounter in
+    let e = new_entry c.args.new in
     let plan = c.args.plan.now in
     let entered = c.in_ok-enter_overlay.ensures.ok in
-    let lowers : held_in c.enter_overlay.new.self c.args.filesystem.count ≡ c.args.lowers.items =
-    ap (λ (store : StoreValue). held_in store c.args.filesystem.count) entered
+    let lowers : held_in c.enter_overlay.new.self c.args.new.filesystem.count ≡ c.args.new.lowers.items =
+    ap (λ (store : StoreValue). held_in store c.args.new.filesystem.count) entered
     ∙ lowers_new c.args.store.now e c.requires.above in
-    let layers = map layer_of c.args.lowers.items in
+    let layers = map layer_of c.args.new.lowers.items in
     let all = folded with_layer (shown c.args.store.now.plain) layers in
     let uses : shown c.plain_mut.result.now ≡ all = ap shown c.plain_mut.ensures.value ∙ c.hold_layers_of.ensures.held
     ∙ (λ i. with_layers (lowers i) (shown (entered i).plain))
-    ∙ layers_more c.args.lowers.items (shown c.args.store.now.plain) in
+    ∙ layers_more c.args.new.lowers.items (shown c.args.store.now.plain) in
     let taken = points_taken plan.points.now c.args.mounts.now in
     let less = most_counted - (2 * length plan.copies.now + length plan.points.now + c.len.result) in
     let middle = most_counted - (2 * length plan.copies.now + length plan.points.now) in
     let few = taken_few plan.points.now c.args.mounts.now in
-    let as_many : length layers ≡ length c.args.lowers.items = length-map c.args.lowers.items layer_of in
+    let as_many : length layers ≡ length c.args.new.lowers.items = length-map c.args.new.lowers.items layer_of in
     let sum = c.if-not-plan_has_room.ensures.fits refl in
     let beside = c.len.ensures in
     let fits : less + length layers ≤ middle = omega (arith, as_many, sum, beside) in
@@ -93,7 +94,7 @@ exchange_uses-requires-clause-copies c =
 
 pub hold_overlays-requires : goal.hold_overlays-requires
 hold_overlays-requires c =
-    let e = new_overlay c.args.filesystem c.args.lowers.items c.args.mounter in
+    let e = new_entry c.args.new in
     let plan = c.args.plan.now in
     let less = most_counted - (2 * length plan.copies.now + length plan.points.now + c.len.result) in
     let before = map merged_of c.args.store.now.overlays in
@@ -109,12 +110,12 @@ hold_overlays-requires c =
 
 pub returns-in-Ok-clause-ok : goal.returns-in-Ok-clause-ok
 returns-in-Ok-clause-ok c =
-    let e = new_overlay c.args.filesystem c.args.lowers.items c.args.mounter in
+    let e = new_entry c.args.new in
     let plan = c.args.plan.now in
     let held = c.hold_layers_of.new.self in
     let entered = c.in_ok-enter_overlay.ensures.ok in
-    let lowers : held_in c.enter_overlay.new.self c.args.filesystem.count ≡ c.args.lowers.items =
-    ap (λ (store : StoreValue). held_in store c.args.filesystem.count) entered
+    let lowers : held_in c.enter_overlay.new.self c.args.new.filesystem.count ≡ c.args.new.lowers.items =
+    ap (λ (store : StoreValue). held_in store c.args.new.filesystem.count) entered
     ∙ lowers_new c.args.store.now e c.requires.above in
     let moves = c.in-Ok.ensures.moves in
     let left = left_of c.in-Ok.moved.items in
@@ -145,8 +146,8 @@ returns-in-Ok-clause-ok c =
 
 pub returns-in-Err-clause-err_store : goal.returns-in-Err-clause-err_store
 returns-in-Err-clause-err_store c =
-    let e = new_overlay c.args.filesystem c.args.lowers.items c.args.mounter in
+    let e = new_entry c.args.new in
     c.withdraw_overlay.ensures ∙ ap (λ (store : StoreValue). record store {
-      overlays = without_overlay c.args.filesystem.count store.overlays;
+      overlays = without_overlay c.args.new.filesystem.count store.overlays;
     }) c.in_ok-enter_overlay.ensures.ok ∙ ap (λ (overlays : Overlays). record c.args.store.now { overlays = overlays })
     (withdrawn c.args.store.now.overlays e c.requires.above)

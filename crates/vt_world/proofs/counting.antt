@@ -1,0 +1,2 @@
+-- What the proofs of src/counting.rt use.
+pub mod Lowered
