@@ -1,0 +1,3 @@
+pub mod Gone
+pub mod Above
+pub mod Counted
