@@ -1,8 +1,8 @@
 -- Calls by their names and words.
-use Rattle.std.proofs.Common.{List, None, Option, Some, Result, option_map, refl, false, true, subst, sym, ap, ◌≡◌, ◌∙◌, ◌∷◌, [], ℕ}
-use Rattle.vt_spec.proofs.Common.{Call, One, Two, Version, call_read, no_more, path_word, then_some, word_then}
+use Rattle.std.proofs.Common.{List, None, Option, Some, Result, is_some, not, option_map, refl, false, true, subst, sym, ap, ◌≡◌, ◌∙◌, ◌∷◌, [], ℕ}
+use Rattle.vt_spec.proofs.Common.{Call, One, OverlayWords, Two, Version, call_read, no_more, options_of, path_word, then_some, when, word_then}
 use Rattle.vt_spec.specs.Language.Calls as spec
-use Rattle.vt_spec.specs.Language.Script.{names_no_upper, path_alone, two_paths}
+use Rattle.vt_spec.specs.Language.Script.{known_options, names_no_upper, path_alone, two_paths}
 use Rattle.vt_request.specs.declared.request.Call.{Call as KeptCall}
 use Rattle.vt_line.specs.declared.names.CallName.{CallName}
 use Rattle.vt_line.specs.declared.names.CallName.TheVariants.{Pair, Path, PivotRoot}
@@ -47,6 +47,24 @@ two_paths-pair call words =
     (λ first. word_then path_word (λ second. no_more (call first second))) words
     (λ first rest. word_then-map (with_pair call) path_word (λ second. no_more (first, second))
     (λ second. no_more (call first second)) rest (λ second rest. no_more-map (with_pair call) (first, second) rest))
+
+-- options are read, unless they name an upper layer
+pub is_some-map : {A B : Type 0} (f : A → B) (o : Option A) → is_some (option_map f o) ≡ is_some o
+is_some-map f None = refl
+is_some-map f (Some a) = refl
+
+pub known_none : (text : List ℕ) → options_of text ≡ None → None ≡ known_options names_no_upper (options_of text)
+known_none text none = sym (ap (known_options names_no_upper) none)
+
+pub known_upper : (text : List ℕ) (words : OverlayWords) → options_of text ≡ Some words → is_some words.upper ≡ true
+    → None ≡ known_options names_no_upper (options_of text)
+known_upper text words is upper =
+    sym (ap (known_options names_no_upper) is ∙ ap (λ there. when (not there) words) upper)
+
+pub known_some : (text : List ℕ) (words : OverlayWords) → options_of text ≡ Some words → is_some words.upper ≡ false
+    → Some words ≡ known_options names_no_upper (options_of text)
+known_some text words is upper =
+    sym (ap (known_options names_no_upper) is ∙ ap (λ there. when (not there) words) upper)
 
 -- calls that have no options are read as they are
 had : {A : Type 0} (call : A → Call) (words : Option A) → ((x : A) → call_read names_no_upper (call x) ≡ call x)

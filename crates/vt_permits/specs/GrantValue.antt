@@ -24,7 +24,7 @@ use Rattle.vt_permits.specs.declared.grant.Grant.{Grant}
 use Rattle.vt_permits.specs.declared.grant.Grant.TheVariants as granted
 use Rattle.vt_permits.specs.declared.grant.LookGrant.{LookGrant}
 use Rattle.vt_permits.specs.declared.grant.LookGrant.TheVariants as look
-use Rattle.vt_permits.specs.declared.grant.LowerLayer.{LowerLayer}
+use Rattle.vt_permits.specs.declared.grant.NewLayer.{NewLayer}
 use Rattle.vt_permits.specs.declared.grant.MakeGrant.{MakeGrant}
 use Rattle.vt_permits.specs.declared.grant.MakeGrant.TheVariants as make
 use Rattle.vt_permits.specs.declared.grant.MountGrant.{MountGrant}
@@ -112,15 +112,15 @@ attachment_permit (attachment.Bind bind) =
     ToBind (location_of bind.source) (location_of bind.destination) bind.recursive
 attachment_permit (attachment.Move mount destination) = ToMove (counted mount.count) (location_of destination)
 
--- a lower layer of a new overlay
-abbrev pub layer_of : LowerLayer → Layer ℕ
-layer_of lower = record { filesystem = filesystem_number lower.filesystem; directory = number_of lower.directory }
+-- a layer of a new overlay
+abbrev pub layer_of : NewLayer → Layer ℕ
+layer_of layer = record { filesystem = filesystem_number layer.filesystem; directory = number_of layer.directory }
 
 -- a new overlay that a task mounts, before any inode has a real object
 abbrev pub overlay_of : Task ℕ → ToMountOverlay → Overlay ℕ
 overlay_of who new = record {
-  upper = None;
-  work = None;
+  upper = option_map layer_of new.upper;
+  work = option_map layer_of new.work;
   lowers = map layer_of new.lowers.items;
   mounter = who.credentials;
   real = λ number. None;

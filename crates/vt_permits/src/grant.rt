@@ -218,18 +218,21 @@ pub struct ToSetType {
     pub recursive: bool,
 }
 
-/// The mount of a new overlay without an upper layer: mount(2). The caller is its mounter.
+/// The mount of a new overlay: mount(2). The caller is its mounter.
 #[derive(Debug, Drop)]
 pub struct ToMountOverlay {
     pub destination: Location,
     /// The highest first.
-    pub lowers: Vec<LowerLayer>,
+    pub lowers: Vec<NewLayer>,
+    /// The upper and the work directory.
+    pub upper: Option<NewLayer>,
+    pub work: Option<NewLayer>,
     pub flags: MountFlags,
 }
 
-/// A lower layer of a new overlay: a directory, and the filesystem of the mount on which it was found.
+/// A layer of a new overlay: a directory, and the filesystem of the mount on which it was found.
 #[derive(Clone, Copy, Debug, PartialEq, Eq)]
-pub struct LowerLayer {
+pub struct NewLayer {
     pub filesystem: FilesystemId,
     pub directory: NodeRef,
 }

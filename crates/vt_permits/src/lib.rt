@@ -4,7 +4,7 @@
 mod grant;
 
 pub use grant::{
-    Attachment, DescriptorGrant, Grant, LookGrant, LowerLayer, MakeGrant, MountGrant, RemoveGrant,
+    Attachment, DescriptorGrant, Grant, LookGrant, MakeGrant, MountGrant, NewLayer, RemoveGrant,
     TaskGrant, ToBind, ToLink, ToMake, ToMountOverlay, ToOpenNew, ToReadPart, ToRemoveDirectory,
     ToRename, ToSetType, ToUnlink, ToWritePart, WriteGrant,
 };

@@ -1,9 +1,9 @@
 -- What requests ask for, in the policy's words, free of capacities.
 use Rattle.vt_spec.specs.Language.Calls as spec
-use Rattle.vt_spec.specs.Language.Script.{known_options, names_no_upper, options_of}
 use Rattle.vt_cred.specs.Caps.{capability_bits}
 use Rattle.vt_cred.specs.MountFlags.{flags_of}
-use Rattle.std.specs.Prelude.{List, Option, option_map, ℕ}
+use Rattle.std.specs.Prelude.{option_map}
+use Rattle.std.specs.Result.{result_ok}
 use Rattle.vt_request.specs.declared.request.CapsWord.{CapsWord}
 use Rattle.vt_request.specs.declared.request.CapsWord.TheVariants.{Held, Named}
 use Rattle.vt_request.specs.declared.request.Access.{Access}
@@ -114,16 +114,11 @@ task_call_of task.Exit = spec.Call.Exit
 task_call_of task.Unshare = spec.Call.Unshare
 task_call_of (task.Setns name) = spec.Call.Setns name
 
--- The options that a text names, if it is a list of options. Code has no overlays with an upper layer: a text with
--- `upperdir` is no list of options.
-abbrev pub options_named : List ℕ → Option spec.OverlayWords
-options_named text = known_options names_no_upper (options_of text)
-
 -- a call that changes mounts
 abbrev pub mount_call_of : MountCall → spec.Call
 mount_call_of (mount.Plain path flags) = spec.Call.MountPlain path.now (flags_of flags)
 mount_call_of (mount.Overlay path options flags) =
-    spec.Call.MountOverlay path.now (options_named options.now) (flags_of flags)
+    spec.Call.MountOverlay path.now (result_ok options) (flags_of flags)
 mount_call_of (mount.Bind source path recursive) = spec.Call.Bind source.now path.now recursive
 mount_call_of (mount.Move source path) = spec.Call.MoveMount source.now path.now
 mount_call_of (mount.Umount path) = spec.Call.Umount path.now

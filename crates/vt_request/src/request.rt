@@ -4,6 +4,7 @@ ghost use Rattle.vt_cred.specs.declared.credentials.TheConstants.{MAX_GROUPS};
 
 use crate::task::TaskName;
 use vt_cred::{Caps, MountFlags};
+use vt_options::LayerOptions;
 use vt_spec::attributes::Mode;
 
 /// The capabilities that a call names.
@@ -223,10 +224,10 @@ pub enum MountCall<'a> {
         path: &'a [u8],
         flags: MountFlags,
     },
-    /// mount(2) of an overlay with these options, a text as mount(8) takes it
+    /// mount(2) of an overlay with these options, or with a text that is no list of options
     Overlay {
         path: &'a [u8],
-        options: &'a [u8],
+        options: Result<LayerOptions<'a>, &'a [u8]>,
         flags: MountFlags,
     },
     /// mount(2) with `MS_BIND`, and `MS_REC`

@@ -1,9 +1,11 @@
 //! The calls on mounts that are given more than paths, or that one version has.
 ghost use Rattle.std.specs.Prelude.{◌≡◌, codes, option_map, false, true};
+ghost use Rattle.std.specs.Result.{result_ok};
 ghost use Rattle.vt_spec.specs.Language.Calls.Call.{MountOverlay, MountPlain, Remount, SetType};
+ghost use Rattle.vt_spec.specs.Language.Script.{known_options, names_no_upper, options_of};
 ghost use Rattle.vt_spec.specs.Language.Script.Version.{One};
 ghost use Rattle.vt_cred.specs.MountFlags.{flags_of};
-ghost use Rattle.vt_request.specs.Requests.{options_named, type_word_of};
+ghost use Rattle.vt_request.specs.Requests.{type_word_of};
 ghost use Rattle.vt_line.specs.Calls.{call_named, call_worded, mount_named, IsCallRead};
 ghost use Rattle.vt_line.specs.Versions.{version_of};
 
@@ -12,7 +14,11 @@ use crate::names::CallName;
 use crate::version::Version;
 use crate::words::{Words, flags_word, path_word, type_word};
 use vt_cred::MountFlags;
+use vt_options::LayerOptions;
 use vt_request::{Call, LookCall, MountCall, TypeWord};
+
+/// The path, the options or a text that is none, and the flags of a mount of an overlay.
+type OverlayWords<'a> = (&'a [u8], Result<LayerOptions<'a>, &'a [u8]>, MountFlags);
 
 /// The words of `mount plain PATH [FLAGS]` behind the kind.
 fn plain_words<'a>(version: Version, words: &mut Words<'a>) -> Option<(&'a [u8], MountFlags)>
@@ -28,16 +34,26 @@ fn plain_words<'a>(version: Version, words: &mut Words<'a>) -> Option<(&'a [u8],
     Some((path, flags))
 }
 
+/// The options that a text is, if the grammar knows them: scripts have no overlays with an upper layer.
+fn options_word(text: &[u8]) -> Result<LayerOptions<'_>, &[u8]>
+    ensures { result_ok result ≡ known_options names_no_upper (options_of text.now) }
+{
+    let Some(options) = LayerOptions::parse(text) else {
+        return Err(text);
+    };
+    if options.upper().is_some() {
+        return Err(text);
+    }
+    Ok(options)
+}
+
 /// The words of `mount overlay PATH OPTIONS [FLAGS]` behind the kind.
-fn overlay_words<'a>(
-    version: Version,
-    words: &mut Words<'a>,
-) -> Option<(&'a [u8], &'a [u8], MountFlags)>
-    ensures { option_map (λ w. MountOverlay w.0.now (options_named w.1.now) (flags_of w.2)) result
+fn overlay_words<'a>(version: Version, words: &mut Words<'a>) -> Option<OverlayWords<'a>>
+    ensures { option_map (λ w. MountOverlay w.0.now (result_ok w.1) (flags_of w.2)) result
         ≡ mount_named (version_of version) (codes "overlay") words.old }
 {
     let path = path_word(words.next()?)?;
-    let options = words.next()?;
+    let options = options_word(words.next()?);
     let Some(flags) = words.next() else {
         return Some((path, options, MountFlags::plain()));
     };
