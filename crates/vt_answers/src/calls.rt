@@ -30,8 +30,9 @@ pub trait Calls {
 
     /// Does a call of a task, or refuses it by the first rule that fails and changes nothing.
     ///
-    /// S2 (ESRCH): there is no such task. S5 (ENOMEM): an allocation failed, or a count of uses is full. The other
-    /// rules are those of the call, in its order.
+    /// S2 (ESRCH): there is no such task. S5 (ENOMEM): an allocation failed, a count of uses is full, or the call would
+    /// mount an overlay with an upper layer, which the grammar of scripts does not have yet. The other rules are those of
+    /// the call, in its order.
     fn call(&mut self, name: &TaskName, call: Call<'_>) -> Result<Answer, Deny>
         ensures ends { Ends world self.old name.now (call_of call.entry) result self.new }
         ensures change { OnOk result

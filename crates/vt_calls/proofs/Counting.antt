@@ -1,5 +1,5 @@
 -- How far calls count, from what their events say.
-use Rattle.std.proofs.Common.{◌≡◌, ◌≤◌, ◌+◌, ◌*◌, ℕ, Err, List, Ok, OnErr, OnOk, Result, Some, ap, arith, length, map, nat_eq, refl, subst}
+use Rattle.std.proofs.Common.{◌≡◌, ◌≤◌, ◌+◌, ◌*◌, ℕ, Err, List, Ok, OnErr, OnOk, Result, Some, ap, arith, length, map, subst}
 use Rattle.vt_spec.proofs.Common.{Mount, Permit, Task, TaskName, ToShared, TypeWord, length-map, task_called}
 use Rattle.vt_laws_later_calls.proofs.Readers.{own_name}
 use Rattle.vt_laws_later_calls.proofs.limits.room.Made.{granted_calls_make_few, namespaces_have_tasks}

@@ -1,5 +1,5 @@
 -- A kernel's world is that of its events but for its change number, so a call ends alike in both.
-use Rattle.std.proofs.Common.{◌≡◌, refl, sym, ap, subst, ◌∙◌, ℕ, nat_eq, Result, Ok, Err, inl, inr, OnErr, is_ok, true}
+use Rattle.std.proofs.Common.{◌≡◌, refl, sym, subst, ◌∙◌, ℕ, nat_eq, Result, Ok, Err, inl, inr, OnErr, is_ok, true}
 use Rattle.vt_spec.proofs.Common.{Call, Fresh, Outcome, SameWorlds, TaskName, policy}
 use Rattle.vt_spec.specs.declared.errors.Deny.{Deny}
 use Rattle.vt_laws_rules.specs.Numbers.{Allotment}

@@ -1,5 +1,5 @@
 -- What the mount of an overlay is handed serves, and may be given: counts, and even numbers for its inodes.
-use Rattle.std.proofs.Common.{◌≡◌, ap, ℕ, ◌==◌, ◌%◌, Bool, true, false, cond, not, List, [], ◌∷◌, arith, eqb-true, ne_eqb}
+use Rattle.std.proofs.Common.{◌≡◌, ap, ℕ, ◌==◌, ◌%◌, Bool, None, true, false, cond, not, List, [], ◌∷◌, arith, eqb-true, ne_eqb}
 use Rattle.vt_spec.proofs.Common.{TaskName, and_parts, inode_count, list_all}
 use Rattle.vt_laws_worlds.specs.Given.NumbersHanded.{Placed, handed_at}
 use Rattle.vt_world.specs.OverlaysMade.Made.{placed_inodes}
@@ -35,13 +35,13 @@ placed_given next (placed ∷ rest) even k = by (k == placed.0) (placed_given ne
 
 -- The supply of a permit to mount an overlay serves, where nothing has the numbers of its inodes.
 pub overlay_is_vacant : (value : WorldValue) → IsHeld value → (name : TaskName) (new : ToMountOverlay)
-    (granted : GrantsOverlay value name new) → NextFilesystemIsNew value
+    (granted : GrantsOverlay value name new) → new.upper ≡ None → NextFilesystemIsNew value
     → AreVacant value (overlay_permit granted.task new)
-overlay_is_vacant value held name new granted is_new =
+overlay_is_vacant value held name new granted no_upper is_new =
     let most = inode_count (world_of value) in
     let kept = overlay_kept value.next (overlay_of granted.task new) in
-    let layers = layers_granted value held name new granted in (
-      overlay_allotted value held name new granted is_new,
+    let layers = layers_granted value held name new granted no_upper in (
+      overlay_allotted value held name new granted no_upper is_new,
       placed_given value.next (placed_inodes most value.filesystems kept)
           (births_apart most value.filesystems kept layers.0 layers.1).0,
     )

@@ -1,5 +1,5 @@
 -- A grant to mount an overlay, and the world that it leaves.
-use Rattle.std.proofs.Common.{◌≡◌, ap, refl, sym, subst, ◌∙◌, ℕ, Some, Result, Ok, Err, OnErr, OnOk}
+use Rattle.std.proofs.Common.{◌≡◌, ap, refl, sym, subst, ◌∙◌, ℕ, None, Some, Result, Ok, Err, OnErr, OnOk}
 use Rattle.vt_spec.proofs.Common.{AllocError, SameWorlds, Task, TaskName, same_Some, task_called, ⊤}
 use Rattle.vt_spec.specs.declared.errors.Deny.{Deny}
 use Rattle.vt_permits.specs.GrantValue.{overlay_permit}
@@ -34,10 +34,10 @@ module _ (value : WorldValue) (name : TaskName) (new : ToMountOverlay)
   }
 
   -- its layers are there, and nothing has the numbers of the overlay
-  vacant : (change : Result ⊤ AllocError) → OnOk change (NextFilesystemIsNew value)
-      → OnOk change (AreVacant value (overlay_permit given.1.task new))
-  vacant (Ok done) is_new = overlay_is_vacant value given.1.held name new overlay_granted is_new
-  vacant (Err refused) is_new = tt
+  vacant : (change : Result ⊤ AllocError) → OnOk change ((new.upper ≡ None) × (new.work ≡ None))
+      → OnOk change (NextFilesystemIsNew value) → OnOk change (AreVacant value (overlay_permit given.1.task new))
+  vacant (Ok done) lower is_new = overlay_is_vacant value given.1.held name new overlay_granted lower.0 is_new
+  vacant (Err refused) lower is_new = tt
 
   -- the world is as its permit leaves it
   becomes_so : (later : WorldValue) (change : Result ⊤ AllocError) → OnOk change (MountsOverlay value name new later)
@@ -48,9 +48,10 @@ module _ (value : WorldValue) (name : TaskName) (new : ToMountOverlay)
   becomes_so later (Err refused) mounts = tt
 
   pub overlay_ends : (later : WorldValue) (change : Result ⊤ AllocError) (result : Result Answer Deny)
-      → result ≡ answered change → OnOk change (NextFilesystemIsNew value)
+      → result ≡ answered change → OnOk change ((new.upper ≡ None) × (new.work ≡ None))
+      → OnOk change (NextFilesystemIsNew value)
       → OnOk change (MountsOverlay value name new later)
       → OnErr change (later ≡ value) → EndsGiven value name (granting.Overlay new) result later
-  overlay_ends later change result e is_new mounts same =
+  overlay_ends later change result e lower is_new mounts same =
       changed_new value name (granting.Overlay new) (overlay_permit given.1.task new) caller_alone later change result e
-      (vacant change is_new) (λ task called. refl) refl (becomes_so later change mounts) same
+      (vacant change lower is_new) (λ task called. refl) refl (becomes_so later change mounts) same

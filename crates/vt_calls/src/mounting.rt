@@ -52,8 +52,8 @@ fn attach(world: &mut World, name: &TaskName, attachment: Attachment) -> Result<
     }
 }
 
-// Mounts a new overlay as is granted. S5 (ENOMEM): an allocation failed, a count of uses is full, or no number is
-// left; nothing has changed.
+// Mounts a new overlay as is granted. S5 (ENOMEM): an allocation failed, a count of uses is full, no number is left, or
+// the overlay has an upper layer, which no overlay of a world has yet; nothing has changed.
 #[inline(always)]
 pub(crate) fn mount_overlay(
     world: &mut World,

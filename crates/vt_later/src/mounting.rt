@@ -1,11 +1,11 @@
 //! Mount calls behind K1 (EPERM): mount(2) in its forms, umount(2), pivot_root(2).
 ghost use Rattle.std.specs.Prelude.{◌≡◌, nat_eq, Bool};
+ghost use Rattle.std.specs.Result.{result_ok};
 ghost use Rattle.vt_spec.specs.Language.Calls.{MountFlags as FlagsMeant, TypeWord as WordMeant};
 ghost use Rattle.vt_spec.specs.Language.Calls.Call.{Bind, Lazy, MountOverlay, MountPlain, MoveMount, PivotRoot, Remount, SetType, Umount};
 ghost use Rattle.vt_spec.specs.Machine.Judging.{judging};
 ghost use Rattle.vt_cred.specs.MountFlags.{flags_of};
 ghost use Rattle.vt_location.specs.Locations.{location_of};
-ghost use Rattle.vt_request.specs.Requests.{options_named};
 ghost use Rattle.vt_tasks.specs.TaskValue.{task_of};
 ghost use Rattle.vt_later.specs.Past.{behind_needs, refusal_past, RefusesAs};
 
@@ -13,8 +13,9 @@ use crate::passing::first;
 use crate::pivoting::pivot_rows;
 use crate::walks::{Aim, led_to};
 use vt_cred::MountFlags;
-use vt_layers::{LookAtLayers, lowers_named};
+use vt_layers::{LookAtLayers, layers_named};
 use vt_looks::{Look, LookAtMounts};
+use vt_options::LayerOptions;
 use vt_permits::{Attachment, ToBind};
 use vt_rules::{
     has_shared_parent, is_attached_somewhere, is_elsewhere, is_no_root, is_shared, is_unbindable,
@@ -58,15 +59,15 @@ pub fn mount_overlay<L: LookAtLayers>(
     who: &Task,
     passed: &[Rule],
     path: &[u8],
-    options: &[u8],
+    options: &Result<LayerOptions<'_>, &[u8]>,
 ) -> Result<(), Deny>
     ensures { (flags : FlagsMeant)
         → RefusesAs (refusal_past (L.looks world.now) (task_of who.now) passed.now (L.overfills world.now)
         (behind_needs (judging nat_eq (L.looks world.now) (task_of who.now)
-        (MountOverlay path.now (options_named options.now) flags)))) result }
+        (MountOverlay path.now (result_ok options.now) flags)))) result }
 {
     let destination = led_to(world, who, Aim::Destination, path)?;
-    drop(lowers_named(world, who, options)?);
+    drop(layers_named(world, who, options)?);
     let overfull = world.overfills_with_overlay(destination)?;
     let rows = [
         (is_elsewhere(world, who, destination), Rule::M2),

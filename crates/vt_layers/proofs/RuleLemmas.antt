@@ -1,12 +1,12 @@
 -- The rules of layers, as code checks them together.
-use Rattle.std.proofs.Common.{◌≡◌, ◌<◌, ◌≤◌, ◌+◌, ◌-◌, ℕ, Bool, true, false, not, ◌&&◌, ◌||◌, List, [], ◌∷◌, ◌++◌, Result, is_some, length, take, drop, get_or, map, nat_eq, option_map, refl, sym, ap, ◌∙◌, nat_lt, option_to_list, append-nil}
+use Rattle.std.proofs.Common.{◌≡◌, ◌<◌, ◌≤◌, ◌+◌, ◌-◌, ℕ, Bool, true, false, not, ◌&&◌, ◌||◌, List, [], ◌∷◌, ◌++◌, Result, Some, is_some, length, take, drop, get_or, map, nat_eq, option_map, refl, sym, ap, ◌∙◌, nat_lt, option_to_list}
 use Rattle.vt_spec.proofs.Common.{Layer, LayerLocations, Location, Looks, Rules, Task, any_pair, at_drop_all, at_drop_more, has_single_lower, is_empty_list, is_overlay_at, is_read_only, layer_at, layer_locations, layer_rules, list_any, list_any-append, most_lowers, one_under_another, overlay_at, take_rest, unless}
 use Rattle.vt_spec.specs.declared.errors.Deny.{Deny}
 use Rattle.vt_spec.specs.declared.errors.Rule.TheVariants.{O2, O3, O5}
 use Rattle.vt_spec.specs.Machine.Rules.Mounting.{lie_apart, upper_and_work_locations, upper_overlaps_work}
 use Rattle.vt_location.specs.Locations.{location_of}
-use Rattle.vt_layers.specs.LayerConditions.{checked_rules, lowers_rules}
-use Rattle.vt_layers.specs.LayersValue.{lowers_alone, lowers_of}
+use Rattle.vt_layers.specs.LayerConditions.{checked_rules, overlap_lowers, some_overlaid}
+use Rattle.vt_layers.specs.LayersValue.{lowers_of}
 use Rattle.vt_layers.specs.declared.walks.Lower.{Lower}
 
 -- a test of what a list is mapped to
@@ -16,29 +16,18 @@ list_any-map test f [] = refl
 list_any-map test f (a ∷ rest) = ap (λ more. test (f a) || more) (list_any-map test f rest)
 
 -- rows of one rule are one row
-joined_rows : {A : Type 0} (e1 e2 e3 e4 a b c e6 e7 e8 : Bool) (rows : Rules) (answer : Result A Deny)
-    → unless ((e1 || e2 || e3 || e4 || a || b || c || (e3 || e6 || e7 || e8), O2) ∷ rows) answer
-    ≡ unless ((e1, O2) ∷ (e2, O2) ∷ (e3, O2) ∷ (e4, O2) ∷ (a || b || c, O2) ∷ (e6, O2) ∷ (e7, O2) ∷ (e8, O2) ∷ rows)
-    answer
-joined_rows true e2 e3 e4 a b c e6 e7 e8 rows answer = refl
-joined_rows false true e3 e4 a b c e6 e7 e8 rows answer = refl
-joined_rows false false true e4 a b c e6 e7 e8 rows answer = refl
-joined_rows false false false true a b c e6 e7 e8 rows answer = refl
-joined_rows false false false false true b c e6 e7 e8 rows answer = refl
-joined_rows false false false false false true c e6 e7 e8 rows answer = refl
-joined_rows false false false false false false true e6 e7 e8 rows answer = refl
-joined_rows false false false false false false false true e7 e8 rows answer = refl
-joined_rows false false false false false false false false true e8 rows answer = refl
-joined_rows false false false false false false false false false true rows answer = refl
-joined_rows false false false false false false false false false false rows answer = refl
-
-joined_ends : {A : Type 0} (e9 e10 f1 f2 : Bool) (answer : Result A Deny)
-    → unless ((e9, O3) ∷ (e10 || f1 || f2, O5) ∷ []) answer ≡ unless ((e9, O3) ∷ (e10, O5) ∷ (f1 || f2, O5) ∷ []) answer
-joined_ends true e10 f1 f2 answer = refl
-joined_ends false true f1 f2 answer = refl
-joined_ends false false true f2 answer = refl
-joined_ends false false false true answer = refl
-joined_ends false false false false answer = refl
+joined_rows : {A : Type 0} (e1 e2 e3 e4 e5 e6 e7 e8 : Bool) (rows : Rules) (answer : Result A Deny)
+    → unless ((e1 || e2 || e3 || e4, O2) ∷ (e5, O2) ∷ (e3 || e6 || e7 || e8, O2) ∷ rows) answer
+    ≡ unless ((e1, O2) ∷ (e2, O2) ∷ (e3, O2) ∷ (e4, O2) ∷ (e5, O2) ∷ (e6, O2) ∷ (e7, O2) ∷ (e8, O2) ∷ rows) answer
+joined_rows true e2 e3 e4 e5 e6 e7 e8 rows answer = refl
+joined_rows false true e3 e4 e5 e6 e7 e8 rows answer = refl
+joined_rows false false true e4 e5 e6 e7 e8 rows answer = refl
+joined_rows false false false true e5 e6 e7 e8 rows answer = refl
+joined_rows false false false false true e6 e7 e8 rows answer = refl
+joined_rows false false false false false true e7 e8 rows answer = refl
+joined_rows false false false false false false true e8 rows answer = refl
+joined_rows false false false false false false false true rows answer = refl
+joined_rows false false false false false false false false rows answer = refl
 
 module _ (looks : Looks ℕ) (task : Task ℕ) where
   any_of_three : {X : Type 0} (test : X → Bool) (xs ys zs : List X)
@@ -66,64 +55,39 @@ module _ (looks : Looks ℕ) (task : Task ℕ) where
       (looks.is_in_use overlay, O3) ∷ (any_pair (one_under_another nat_eq looks) lowers, O5) ∷ (upward, O5) ∷ [] in
       let rows : Bool → Bool → Rules = λ merged. λ upward.
       (e1, O2) ∷ (e2, O2) ∷ (e3, O2) ∷ (e4, O2) ∷ (merged, O2) ∷ (e6, O2) ∷ (e7, O2) ∷ (e8, O2) ∷ ends upward in
-      let front = e1 || e2 || e3 || e4 || list_any (is_overlay_at looks) layers.lowers
-      || list_any (is_overlay_at looks) (option_to_list layers.upper)
-      || list_any (is_overlay_at looks) (option_to_list layers.work) || (e3 || e6 || e7 || e8) in
-      first_row front (looks.is_in_use overlay) (any_pair (one_under_another nat_eq looks) lowers)
-      (list_any overlaps uppers) (list_any overlaps works) answer
-      ∙ joined_rows e1 e2 e3 e4 (list_any (is_overlay_at looks) layers.lowers)
-      (list_any (is_overlay_at looks) (option_to_list layers.upper))
-      (list_any (is_overlay_at looks) (option_to_list layers.work)) e6 e7 e8
-      (ends (list_any overlaps uppers || list_any overlaps works)) answer
-      ∙ ap (λ merged. unless (rows merged (list_any overlaps uppers || list_any overlaps works)) answer)
+      joined_rows e1 e2 e3 e4 (some_overlaid looks layers) e6 e7 e8 (ends (overlap_lowers looks layers)) answer
+      ∙ ap (λ merged. unless (rows merged (overlap_lowers looks layers)) answer)
       (any_of_three (is_overlay_at looks) layers.lowers (option_to_list layers.upper) (option_to_list layers.work))
       ∙ ap (λ upward. unless (rows (list_any (is_overlay_at looks) (layer_locations layers)) upward) answer)
       (sym (list_any-append overlaps uppers works))
-    where
-      first_row : {A : Type 0} (front e9 e10 f1 f2 : Bool) (answer : Result A Deny)
-          → unless ((front, O2) ∷ (e9, O3) ∷ (e10 || f1 || f2, O5) ∷ []) answer
-          ≡ unless ((front, O2) ∷ (e9, O3) ∷ (e10, O5) ∷ (f1 || f2, O5) ∷ []) answer
-      first_row true e9 e10 f1 f2 answer = refl
-      first_row false e9 e10 f1 f2 answer = joined_ends e9 e10 f1 f2 answer
 
--- rows of lower layers alone
-joined_lowers : {A : Type 0} (e1 e2 e4 e5 : Bool) (rows : Rules) (answer : Result A Deny)
-    → unless ((e1 || e2 || e4 || e5, O2) ∷ rows) answer
-    ≡ unless ((e1, O2) ∷ (e2 && true, O2) ∷ (false, O2) ∷ (e4, O2) ∷ (e5, O2) ∷ (false, O2) ∷ (false, O2) ∷ (false, O2) ∷ rows)
-    answer
-joined_lowers true e2 e4 e5 rows answer = refl
-joined_lowers false true e4 e5 rows answer = refl
-joined_lowers false false true e5 rows answer = refl
-joined_lowers false false false true rows answer = refl
-joined_lowers false false false false rows answer = refl
+-- a layer is not in an overlay where none is
+neither : (a b : Bool) → (a || b) ≡ false → (a ≡ false) × (b ≡ false)
+neither true b e = absurd cc
+neither false b e = (refl, e)
 
-lowers_end : {A : Type 0} (e9 e10 : Bool) (answer : Result A Deny)
-    → unless ((e9, O3) ∷ (e10, O5) ∷ []) answer ≡ unless ((e9, O3) ∷ (e10, O5) ∷ (false, O5) ∷ []) answer
-lowers_end true e10 answer = refl
-lowers_end false true answer = refl
-lowers_end false false answer = refl
+module _ (looks : Looks ℕ) (layers : LayerLocations ℕ) (none : some_overlaid looks layers ≡ false) where
+  abbrev overlaid : List (Location ℕ) → Bool
+  overlaid = list_any (is_overlay_at looks)
 
-module _ (looks : Looks ℕ) (task : Task ℕ) where
-  pub lowers-rules : {A : Type 0} (lowers : List (Location ℕ)) (answer : Result A Deny)
-      → unless (lowers_rules looks task lowers) answer
-      ≡ unless (layer_rules nat_eq looks (lowers_alone lowers) (overlay_at looks task (lowers_alone lowers))) answer
-  lowers-rules lowers answer =
-      let e1 = is_empty_list lowers in
-      let e2 = has_single_lower lowers in
-      let e4 = nat_lt most_lowers (length lowers) in
-      let e9 = looks.is_in_use (overlay_at looks task (lowers_alone lowers)) in
-      let e10 = any_pair (one_under_another nat_eq looks) (map (layer_at looks) lowers) in
-      let ends : Rules = (e9, O3) ∷ (e10, O5) ∷ (false, O5) ∷ [] in
-      first_row (e1 || e2 || e4 || list_any (is_overlay_at looks) lowers) e9 e10 answer
-      ∙ joined_lowers e1 e2 e4 (list_any (is_overlay_at looks) lowers) ends answer
-      ∙ ap (λ all. unless ((e1, O2) ∷ (e2 && true, O2) ∷ (false, O2) ∷ (e4, O2) ∷ (list_any (is_overlay_at looks) all, O2)
-      ∷ (false, O2) ∷ (false, O2) ∷ (false, O2) ∷ ends) answer) (sym (append-nil (lowers ++ []) ∙ append-nil lowers))
-    where
-      first_row : {A : Type 0} (front e9 e10 : Bool) (answer : Result A Deny)
-          → unless ((front, O2) ∷ (e9, O3) ∷ (e10, O5) ∷ []) answer
-          ≡ unless ((front, O2) ∷ (e9, O3) ∷ (e10, O5) ∷ (false, O5) ∷ []) answer
-      first_row true e9 e10 answer = refl
-      first_row false e9 e10 answer = lowers_end e9 e10 answer
+  no_two : ((overlaid layers.lowers || overlaid (option_to_list layers.upper)) ≡ false)
+      × (overlaid (option_to_list layers.work) ≡ false)
+  no_two = neither (overlaid layers.lowers || overlaid (option_to_list layers.upper))
+      (overlaid (option_to_list layers.work)) none
+
+  pub lowers_plain : list_any (is_overlay_at looks) layers.lowers ≡ false
+  lowers_plain = (neither (overlaid layers.lowers) (overlaid (option_to_list layers.upper)) no_two.0).0
+
+  pub upper_plain : list_any (is_overlay_at looks) (option_to_list layers.upper) ≡ false
+  upper_plain = (neither (overlaid layers.lowers) (overlaid (option_to_list layers.upper)) no_two.0).1
+
+  pub work_plain : list_any (is_overlay_at looks) (option_to_list layers.work) ≡ false
+  work_plain = no_two.1
+
+  -- nor is an upper directory that is given
+  pub upper_alone : (at : Location ℕ) → layers.upper ≡ Some at → is_overlay_at looks at ≡ false
+  upper_alone at is = (neither (is_overlay_at looks at) false
+      (ap (λ upper. overlaid (option_to_list upper)) (sym is) ∙ upper_plain)).0
 
 -- layers by their locations
 abbrev pub layers_at : Looks ℕ → List Lower → List (Layer ℕ)

@@ -1,6 +1,6 @@
 -- What the definitions see of the layers that code has walked to, of which it keeps so many that a list too long is
 -- seen to be too long.
-use Rattle.std.specs.Prelude.{Err, List, None, Ok, Option, Result, map, option_map, take, ℕ}
+use Rattle.std.specs.Prelude.{Err, List, Ok, Option, Result, map, option_map, take, ℕ}
 use Rattle.vt_spec.specs.declared.errors.Deny.{Deny}
 use Rattle.vt_spec.specs.Machine.Mounts as meant
 use Rattle.vt_spec.specs.Machine.Rules.Mounting.{LayerLocations as LayersMeant}
@@ -13,10 +13,6 @@ use Rattle.vt_layers.specs.declared.walks.TheConstants.{KEPT_LOWERS}
 -- the locations of lower layers
 abbrev pub lowers_of : List Lower → List (meant.Location ℕ)
 lowers_of lowers = map (λ lower. location_of lower.at) lowers
-
--- lower layers alone, without an upper and a work directory
-abbrev pub lowers_alone : List (meant.Location ℕ) → LayersMeant ℕ
-lowers_alone lowers = record { lowers = lowers; upper = None; work = None }
 
 abbrev pub given_result : Result (Option Location) Deny → Result (Option (meant.Location ℕ)) Deny
 given_result (Ok at) = Ok (option_map location_of at)

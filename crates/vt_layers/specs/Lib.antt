@@ -1,4 +1,3 @@
 pub mod LayerConditions
 pub mod LayersValue
 pub mod MountValue
-pub mod OptionValue

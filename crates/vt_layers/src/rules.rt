@@ -1,7 +1,7 @@
 //! The rules of layers: the kernel's overlayfs document, "upper and lower", "multiple lower layers", "sharing and
 //! copying layers".
 ghost use Rattle.std.specs.List.{list_any};
-ghost use Rattle.std.specs.Prelude.{◌≡◌, Ok, map, nat_eq, option_map, option_to_list};
+ghost use Rattle.std.specs.Prelude.{◌≡◌, [], Ok, Some, false, map, nat_eq, option_map, option_to_list};
 ghost use Rattle.vt_spec.specs.Errors.{unless};
 ghost use Rattle.vt_spec.specs.Lists.{any_pair};
 ghost use Rattle.vt_spec.specs.Machine.Looks.{mount_at};
@@ -10,10 +10,10 @@ ghost use Rattle.vt_spec.specs.Machine.Rules.Mounting.{layer_at, layer_rules, on
 ghost use Rattle.vt_location.specs.Locations.{location_of};
 ghost use Rattle.vt_location.specs.Numbers.{filesystem_number};
 ghost use Rattle.vt_tasks.specs.TaskValue.{task_of};
-ghost use Rattle.vt_layers.specs.LayerConditions.{are_miscounted, checked_rules, is_upper_unfit, lowers_rules};
-ghost use Rattle.vt_layers.specs.LayersValue.{layers_of, lowers_alone, lowers_of};
+ghost use Rattle.vt_layers.specs.LayerConditions.{are_miscounted, checked_rules, is_upper_unfit, overlap_lowers, some_overlaid};
+ghost use Rattle.vt_layers.specs.LayersValue.{layers_of, lowers_of};
 
-use crate::looks::{LookAtLayers, LookAtUpper};
+use crate::looks::LookAtLayers;
 use crate::walks::{LayerLocations, Lower};
 use vt_location::{FilesystemId, Location};
 use vt_looks::Look;
@@ -100,57 +100,94 @@ fn is_on_overlay<L: Look>(world: &L, at: Option<Location>) -> bool
     }
 }
 
-// Whether the upper directory has no work directory, or the two do not fit: they are in two filesystems, overlap, or
-// may not be changed.
-fn is_upper_unfit<L: LookAtUpper>(world: &L, layers: &LayerLocations) -> bool
-    ensures { result ≡ is_upper_unfit (L.looks world.now) (layers_of layers.now) }
+// Whether a layer is in an overlay.
+fn some_overlaid<L: Look>(world: &L, layers: &LayerLocations) -> bool
+    ensures { result ≡ some_overlaid (L.looks world.now) (layers_of layers.now) }
 {
-    match (layers.upper, layers.work) {
-        (Some(upper), Some(work)) => {
+    have_overlay(world, layers.lowers.as_slice())
+        || is_on_overlay(world, layers.upper)
+        || is_on_overlay(world, layers.work)
+}
+
+// Whether an upper directory has no work directory, or the two do not fit: they are in two filesystems, overlap, or may
+// not be changed.
+fn is_unfit_with<L: LookAtLayers>(world: &L, upper: Location, work: Option<Location>) -> bool
+    requires upper { is_overlay_at (L.looks world.now) (location_of upper) ≡ false }
+    requires work { list_any (is_overlay_at (L.looks world.now)) (option_to_list (option_map location_of work))
+        ≡ false }
+    ensures { result ≡ is_upper_unfit (L.looks world.now)
+        (record { lowers = []; upper = Some (location_of upper); work = option_map location_of work }) }
+{
+    match work {
+        Some(work) => {
             !is_same_filesystem(world, upper, work)
                 || world.overlaps_one_of(&[Lower { at: work }], upper)
                 || is_read_only(world, upper)
                 || is_read_only(world, work)
         }
-        (Some(_), None) => true,
-        (None, Some(work)) => is_read_only(world, work),
-        (None, None) => false,
+        None => true,
+    }
+}
+
+// Whether there is an upper directory that is unfit with the work directory, or a work directory alone that may not be
+// changed.
+fn is_upper_unfit<L: LookAtLayers>(world: &L, layers: &LayerLocations) -> bool
+    requires { some_overlaid (L.looks world.now) (layers_of layers.now) ≡ false }
+    ensures { result ≡ is_upper_unfit (L.looks world.now) (layers_of layers.now) }
+{
+    match layers.upper {
+        Some(upper) => is_unfit_with(world, upper, layers.work),
+        None => match layers.work {
+            Some(work) => is_read_only(world, work),
+            None => false,
+        },
     }
 }
 
 // Whether the upper or the work directory overlaps a lower layer, if it is given.
-fn overlaps_lower<L: LookAtUpper>(world: &L, lowers: &[Lower], at: Option<Location>) -> bool
+fn overlaps_lower<L: LookAtLayers>(world: &L, layers: &LayerLocations, at: Option<Location>) -> bool
+    requires lowers { list_any (is_overlay_at (L.looks world.now)) (lowers_of layers.now.lowers.items) ≡ false }
+    requires at { list_any (is_overlay_at (L.looks world.now)) (option_to_list (option_map location_of at)) ≡ false }
     ensures { result ≡ list_any ((L.looks world.now).overlaps_one_of
-        (map (layer_at (L.looks world.now)) (lowers_of lowers.now)))
+        (map (layer_at (L.looks world.now)) (lowers_of layers.now.lowers.items)))
         (option_to_list (option_map (layer_at (L.looks world.now)) (option_map location_of at))) }
 {
     match at {
-        Some(at) => world.overlaps_one_of(lowers, at),
+        Some(at) => world.overlaps_one_of(layers.lowers.as_slice(), at),
         None => false,
     }
 }
 
-// The rules of layers, those together that answer alike.
-fn checked<L: LookAtUpper>(world: &L, who: &Task, layers: &LayerLocations) -> Result<(), Deny>
+// Whether the upper or the work directory overlaps a lower layer.
+fn overlap_lowers<L: LookAtLayers>(world: &L, layers: &LayerLocations) -> bool
+    requires { some_overlaid (L.looks world.now) (layers_of layers.now) ≡ false }
+    ensures { result ≡ overlap_lowers (L.looks world.now) (layers_of layers.now) }
+{
+    let upper = overlaps_lower(world, layers, layers.upper);
+    upper || overlaps_lower(world, layers, layers.work)
+}
+
+// The rules of layers, those together that are checked together.
+fn checked<L: LookAtLayers>(world: &L, who: &Task, layers: &LayerLocations) -> Result<(), Deny>
     ensures { result
         ≡ unless (checked_rules (L.looks world.now) (task_of who.now) (layers_of layers.now)) (Ok tt) }
 {
-    let lowers = layers.lowers.as_slice();
-    if are_miscounted(layers)
-        || have_overlay(world, lowers)
-        || is_on_overlay(world, layers.upper)
-        || is_on_overlay(world, layers.work)
-        || is_upper_unfit(world, layers)
-    {
+    if are_miscounted(layers) {
+        return Err(Rule::O2.denial());
+    }
+    if some_overlaid(world, layers) {
+        return Err(Rule::O2.denial());
+    }
+    if is_upper_unfit(world, layers) {
         return Err(Rule::O2.denial());
     }
     if world.is_in_use(who, layers) {
         return Err(Rule::O3.denial());
     }
-    if some_under_another(world, lowers)
-        || overlaps_lower(world, lowers, layers.upper)
-        || overlaps_lower(world, lowers, layers.work)
-    {
+    if some_under_another(world, layers.lowers.as_slice()) {
+        return Err(Rule::O5.denial());
+    }
+    if overlap_lowers(world, layers) {
         return Err(Rule::O5.denial());
     }
     Ok(())
@@ -162,7 +199,7 @@ fn checked<L: LookAtUpper>(world: &L, who: &Task, layers: &LayerLocations) -> Re
 /// more than 128 lower layers, a layer in an overlay; or an upper and a work directory that are in two filesystems,
 /// overlap, or may not be changed. O3 (EBUSY): a layer overlaps one of a live overlay. O5 (ELOOP): a lower layer is at
 /// or under another, or the upper or work directory overlaps one.
-pub fn may_be_layers<L: LookAtUpper>(
+pub fn may_be_layers<L: LookAtLayers>(
     world: &L,
     who: &Task,
     layers: &LayerLocations,
@@ -171,36 +208,4 @@ pub fn may_be_layers<L: LookAtUpper>(
         (overlay_at (L.looks world.now) (task_of who.now) (layers_of layers.now))) (Ok tt) }
 {
     checked(world, who, layers)
-}
-
-// The rules of lower layers alone, those together that answer alike.
-fn checked_lowers<L: LookAtLayers>(world: &L, who: &Task, lowers: &[Lower]) -> Result<(), Deny>
-    ensures { result
-        ≡ unless (lowers_rules (L.looks world.now) (task_of who.now) (lowers_of lowers.now)) (Ok tt) }
-{
-    if lowers.is_empty()
-        || lowers.len() == 1
-        || lowers.len() > MOST_LOWERS
-        || have_overlay(world, lowers)
-    {
-        return Err(Rule::O2.denial());
-    }
-    if world.are_in_use(who, lowers) {
-        return Err(Rule::O3.denial());
-    }
-    if some_under_another(world, lowers) {
-        return Err(Rule::O5.denial());
-    }
-    Ok(())
-}
-
-/// The rules of layers, of an overlay of lower layers alone that the task is to mount. They do not allocate.
-///
-/// O2 (EINVAL): fewer than two layers, more than 128, a layer in an overlay. O3 (EBUSY): a layer overlaps the upper or
-/// the work directory of a live overlay. O5 (ELOOP): a layer is at or under another.
-pub fn may_be_lowers<L: LookAtLayers>(world: &L, who: &Task, lowers: &[Lower]) -> Result<(), Deny>
-    ensures { result ≡ unless (layer_rules nat_eq (L.looks world.now) (lowers_alone (lowers_of lowers.now))
-        (overlay_at (L.looks world.now) (task_of who.now) (lowers_alone (lowers_of lowers.now)))) (Ok tt) }
-{
-    checked_lowers(world, who, lowers)
 }

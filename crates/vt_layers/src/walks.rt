@@ -6,11 +6,11 @@ ghost use Rattle.vt_tasks.specs.TaskValue.{task_of};
 ghost use Rattle.vt_walk.specs.WalkValue.{location_end, location_result};
 ghost use Rattle.vt_layers.specs.LayersValue.{first_layers, first_lowers, given_result, layers_result, lowers_of};
 
-use crate::options::{LayerOptions, Parts};
 use arrayvec::ArrayVec;
 use vt_location::{FilesystemId, Location, MountId, NodeRef};
 use vt_looks::Look;
 use vt_node::NodeId;
+use vt_options::{LayerOptions, Parts};
 use vt_spec::errors::Deny;
 use vt_tasks::Task;
 use vt_text::path::PathText;
@@ -55,15 +55,9 @@ fn layer_at<L: Look>(world: &L, who: &Task, path: &[u8]) -> Result<Location, Den
     vt_walk::source_walk(world, who, &PathText::parse(path)?)
 }
 
-/// The lower layers at these paths, from the top, of which the first 129 are kept: each is walked as the source of a mount
-/// is. It does not allocate.
-///
-/// W1 (ENOENT): an empty path. The other errors are those of `source_walk`.
-pub(crate) fn lowers_walked<L: Look>(
-    world: &L,
-    who: &Task,
-    mut paths: Parts<'_>,
-) -> Result<Lowers, Deny>
+// The lower layers at these paths, from the top, of which the first 129 are kept: each is walked as the source of a mount
+// is.
+fn lowers_walked<L: Look>(world: &L, who: &Task, mut paths: Parts<'_>) -> Result<Lowers, Deny>
     ensures ok { IfOk result (λ lowers. Ok (lowers_of lowers.items)
         ≡ first_lowers (each_walked nat_eq (L.looks world.now) (task_of who.now) paths.entry)) }
     ensures err { IfErr result (λ deny. Err deny

@@ -1,5 +1,5 @@
 -- What a call is granted is permitted, where the numbers that it is handed serve.
-use Rattle.std.proofs.Common.{◌≡◌, ◌≤◌, refl, subst, ℕ, length, nat_eq, Some}
+use Rattle.std.proofs.Common.{◌≡◌, ◌≤◌, ap, subst, ℕ, length, nat_eq, option_map, None, Some}
 use Rattle.vt_spec.proofs.Common.{Location, MountFlags, Permit, Serves, Task, TaskName, ToMountPlain, inode_count, task_called}
 use Rattle.vt_ns.proofs.Common.{IsHeld, Permits, WorldValue, counts_from, flags_of, inode_number, location_of, supply_of, world_of}
 use Rattle.vt_laws_rules.specs.Numbers.{Allotment}
@@ -12,7 +12,7 @@ use Rattle.vt_laws_worlds.proofs.overlays_stay.in_use.NamedBefore.{any_worlds_ke
 use Rattle.vt_laws_worlds.proofs.worlds.CallsKept.{name_found}
 use Rattle.vt_laws_worlds.specs.Permits.Left.{IsGiven}
 use Rattle.vt_overlay.specs.MergedTree.{AreLayers}
-use Rattle.vt_permits.specs.GrantValue.{overlay_of, overlay_permit}
+use Rattle.vt_permits.specs.GrantValue.{layer_of, overlay_of, overlay_permit}
 use Rattle.vt_permits.specs.declared.grant.ToMountOverlay.{ToMountOverlay}
 use Rattle.vt_world.proofs.overlays_made.Serves.{supplies_for_overlays_serve}
 use Rattle.vt_mounting.specs.Detach.Events.{overlay_kept}
@@ -73,9 +73,12 @@ pub mount_permitted : (value : WorldValue) → IsHeld value → (name : TaskName
 mount_permitted value held name place flags granted vacant = permitted value name (ToMountPlain place flags) granted
     (handed value held 2 (inode_number value.next 0) vacant)
 
--- The mount of an overlay
+-- The mount of an overlay without an upper layer
 module _ (value : WorldValue) (held : IsHeld value) (name : TaskName) (new : ToMountOverlay)
-    (granted : GrantsOverlay value name new) where
+    (granted : GrantsOverlay value name new) (no_upper : new.upper ≡ None) where
+  no_layer : (overlay_of granted.task new).upper ≡ None
+  no_layer = ap (option_map layer_of) no_upper
+
   names : NamesLayers (world_of value) granted.task (location_of new.destination) (overlay_of granted.task new)
   names = overlay_names value held (counts_from value.next) granted.task
       (found_again value name granted.task granted.called) granted.call (location_of new.destination)
@@ -85,8 +88,8 @@ module _ (value : WorldValue) (held : IsHeld value) (name : TaskName) (new : ToM
   pub layers_granted : AreLayers value.filesystems (overlay_kept value.next (overlay_of granted.task new)).lowers
       × (length (overlay_kept value.next (overlay_of granted.task new)).lowers ≤ 128)
   layers_granted = (
-    (kept_layers value held (overlay_of granted.task new) refl names.layers).0,
-    kept_few value held (overlay_of granted.task new) refl names.layers names.fit,
+    (kept_layers value held (overlay_of granted.task new) no_layer names.layers).0,
+    kept_few value held (overlay_of granted.task new) no_layer names.layers names.fit,
   )
 
   -- so the numbers of a new filesystem serve

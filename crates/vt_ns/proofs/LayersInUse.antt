@@ -1,7 +1,7 @@
 -- Layers of an overlay that is to be mounted, where no live overlay has an upper layer: EBUSY of mount(2).
-use Rattle.std.proofs.Common.{◌≡◌, ◌&&◌, All, filter, nat_eq, refl, ℕ, false, List, [], ◌∷◌, flat_map, ◌++◌, ap, sym, ◌∙◌, Option, Some, None}
-use Rattle.vt_spec.proofs.Common.{All-head, All-tail, Filesystem, Layer, Location, Looks, Task, World, filesystem_numbered, in_use, is_overlay, lies_or_counts_under, list_any, of_overlay, overlaps_one_of, overlay_at, upper_and_work, and-false, Overlay, overlay_or}
-use Rattle.vt_layers.specs.LayersValue.{lowers_alone}
+use Rattle.std.proofs.Common.{◌≡◌, ◌&&◌, ◌||◌, All, filter, nat_eq, refl, ℕ, false, List, [], ◌∷◌, flat_map, ◌++◌, ap, ◌∙◌, Option, Some, None, option_to_list}
+use Rattle.vt_spec.proofs.Common.{All-head, All-tail, Filesystem, Layer, World, filesystem_numbered, in_use, is_overlay, lies_or_counts_under, list_any, list_any-append, of_overlay, or-false, overlaps_one_of, upper_and_work, and-false, Overlay, overlay_or}
+use Rattle.vt_spec.specs.Machine.Locked.{live_layers}
 use Rattle.vt_ns.proofs.WithoutUppers.{WritesToNone, all_write_to_none}
 use Rattle.vt_ns.proofs.Common.{IsHeld, WorldValue, world_of}
 
@@ -31,10 +31,13 @@ nothing_written (filesystem ∷ rest) none = by (nothing_written rest (All-tail 
     by later (Some overlay) writes =
         ap (λ first. first ++ flat_map (of_overlay [] upper_and_work) (filter is_overlay rest)) writes ∙ later
 
-pub none_in_use : (value : WorldValue) → IsHeld value → (looks : Looks ℕ) (task : Task ℕ) (lowers : List (Location ℕ))
-    → false ≡ in_use nat_eq (world_of value) (overlay_at looks task (lowers_alone lowers))
-none_in_use value held looks task lowers =
-    let overlay = overlay_at looks task (lowers_alone lowers) in
-    sym (ap (λ written. list_any (overlaps_one_of nat_eq (world_of value) written) overlay.lowers)
+-- so the upper and the work directory alone may be in use
+pub in_use_above : (value : WorldValue) → IsHeld value → (wanted : Overlay ℕ) → in_use nat_eq (world_of value) wanted
+    ≡ (list_any (overlaps_one_of nat_eq (world_of value) (live_layers (world_of value))) (option_to_list wanted.upper)
+    || list_any (overlaps_one_of nat_eq (world_of value) (live_layers (world_of value))) (option_to_list wanted.work))
+in_use_above value held wanted =
+    let overlaps = overlaps_one_of nat_eq (world_of value) (live_layers (world_of value)) in
+    let lower = ap (λ written. list_any (overlaps_one_of nat_eq (world_of value) written) wanted.lowers)
     (nothing_written (world_of value).filesystems (all_write_to_none value held))
-    ∙ none_overlap (world_of value) overlay.lowers)
+    ∙ none_overlap (world_of value) wanted.lowers in
+    (λ i. list_any-append overlaps (option_to_list wanted.upper) (option_to_list wanted.work) i || lower i) ∙ or-false _

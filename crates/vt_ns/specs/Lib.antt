@@ -12,3 +12,4 @@ pub mod Retyped
 pub mod Unmounting
 pub mod Counting
 pub mod Pivoting
+pub mod LayersSeen

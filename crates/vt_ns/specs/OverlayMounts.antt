@@ -6,7 +6,7 @@ use Rattle.vt_spec.specs.Machine.World.{Task, task_called}
 use Rattle.vt_location.specs.Locations.{number_of}
 use Rattle.vt_location.specs.Numbers.{is_own_number}
 use Rattle.vt_permits.specs.GrantValue.{overlay_permit}
-use Rattle.vt_permits.specs.declared.grant.LowerLayer.{LowerLayer}
+use Rattle.vt_permits.specs.declared.grant.NewLayer.{NewLayer}
 use Rattle.vt_permits.specs.declared.grant.ToMountOverlay.{ToMountOverlay}
 use Rattle.vt_mounting.specs.Detach.Events.{left_by}
 use Rattle.vt_world.specs.WorldValue.{WorldValue, world_of}
@@ -18,5 +18,5 @@ MountsOverlay old name new later =
     → SameWorlds (left_by old task (overlay_permit task new)) (world_of later)
 
 -- a layer is an inode of the plain filesystem that its mount shows
-abbrev pub IsPlainLayer : LowerLayer → Type 0
-IsPlainLayer lower = is_own_number lower.filesystem.count (number_of lower.directory) ≡ true
+abbrev pub IsPlainLayer : NewLayer → Type 0
+IsPlainLayer layer = is_own_number layer.filesystem.count (number_of layer.directory) ≡ true

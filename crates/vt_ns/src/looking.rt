@@ -35,7 +35,7 @@ impl World {
 
     // Whether an inode is in the filesystem that the mount of a location shows.
     #[inline(always)]
-    fn is_seen(&self, at: Location) -> bool
+    pub(crate) fn is_seen(&self, at: Location) -> bool
         ensures { result ≡ is_seen self.now at }
     {
         self.shown(at.mount) == at.node.filesystem

@@ -1,5 +1,6 @@
 //! What the rules of mount calls look at: mount(2), umount(2).
-ghost use Rattle.std.specs.Prelude.{◌≡◌, IfOk, List, false, length, nat_eq, ℕ};
+ghost use Rattle.std.specs.Prelude.{◌≡◌, ◌∷◌, [], IfOk, List, false, length, nat_eq, option_map, option_to_list, ℕ};
+ghost use Rattle.std.specs.List.{list_any};
 ghost use Rattle.vt_location.specs.Locations.{location_of};
 ghost use Rattle.vt_location.specs.Numbers.{mount_number};
 ghost use Rattle.vt_mount.specs.MountsValue.{mounts_in};
@@ -9,19 +10,21 @@ ghost use Rattle.vt_spec.specs.Machine.Invariants.{NamespaceInvariants};
 ghost use Rattle.vt_spec.specs.Machine.Mounts as meant;
 ghost use Rattle.vt_spec.specs.Language.Calls.{MountFlags};
 ghost use Rattle.vt_spec.specs.Machine.Permits.Permit.{ToMountOverlay, ToMove};
-ghost use Rattle.vt_spec.specs.Machine.Rules.Mounting.{overlay_at};
+ghost use Rattle.vt_spec.specs.Machine.Locked.{live_layers, overlaps_one_of};
+ghost use Rattle.vt_spec.specs.Machine.Rules.Conditions.{is_overlay_at};
+ghost use Rattle.vt_spec.specs.Machine.Rules.Mounting.{layer_at};
 ghost use Rattle.vt_spec.specs.Machine.World.{Overlay, World as Meant};
-ghost use Rattle.vt_tasks.specs.TaskValue.{task_of};
-ghost use Rattle.vt_layers.specs.LayersValue.{lowers_alone, lowers_of};
+ghost use Rattle.vt_ns.specs.LayersSeen.{plain_seen};
 ghost use Rattle.vt_mounting.specs.Detach.Looking.{looks_of_value, overfills_of};
 ghost use Rattle.vt_world.specs.Held.{IsHeld};
 ghost use Rattle.vt_world.specs.WorldValue.{world_of};
 
 use crate::world::World;
 use std::alloc::AllocError;
-use vt_layers::{LookAtLayers, Lower};
-use vt_location::{Location, MountId, Propagation};
+use vt_layers::{LayerLocations, LookAtLayers, Lower};
+use vt_location::{InodeRef, Location, MountId, Propagation};
 use vt_looks::LookAtMounts;
+use vt_overlaps::{overlaps_live, overlaps_one_of};
 use vt_permits::Attachment;
 use vt_propagate::{Load, has_room_everywhere, is_busy, overfills};
 use vt_spec::errors::Deny;
@@ -71,8 +74,19 @@ impl LookAtMounts for World {
 }
 
 impl LookAtLayers for World {
-    fn are_in_use(&self, who: &Task, lowers: &[Lower]) -> bool {
-        self.are_written_to(who, lowers)
+    fn overlaps_one_of(&self, others: &[Lower], at: Location) -> bool {
+        for other in others {
+            if self.overlap(other.at, at) {
+                return true;
+            }
+        }
+        false
+    }
+
+    fn is_in_use(&self, _who: &Task, layers: &LayerLocations) -> bool {
+        // No overlay writes to a lower layer: what holds of the store says so.
+        let _ = &self.store;
+        self.is_layered(layers.upper) || self.is_layered(layers.work)
     }
 
     fn overfills_with_overlay(&self, destination: Location) -> Result<bool, Deny> {
@@ -81,14 +95,51 @@ impl LookAtLayers for World {
 }
 
 impl World {
-    // Whether one of these layers overlaps the upper or the work directory of an overlay: no overlay has one.
-    fn are_written_to(&self, _who: &Task, _lowers: &[Lower]) -> bool
-        ensures { result ≡ (looks_of_value self.now).is_in_use
-            (overlay_at (looks_of_value self.now) (task_of _who.now) (lowers_alone (lowers_of _lowers.now))) }
+    // The inode of a plain tree that a location leads to, where its mount shows that tree.
+    fn plain_at(&self, at: Location) -> Option<InodeRef>
+        ensures { result ≡ plain_seen self.now at }
     {
-        // No layer is written to: what holds of the store says so.
-        let _ = &self.store;
-        false
+        if self.is_seen(at) {
+            at.node.plain()
+        } else {
+            None
+        }
+    }
+
+    // Whether the directory at a location overlaps another one: some inode lies under both. What is not there overlaps
+    // none.
+    fn overlap(&self, other: Location, at: Location) -> bool
+        requires other { is_overlay_at (looks_of_value self.now) (location_of other) ≡ false }
+        requires at { is_overlay_at (looks_of_value self.now) (location_of at) ≡ false }
+        ensures { result ≡ (looks_of_value self.now).overlaps_one_of
+            (layer_at (looks_of_value self.now) (location_of other) ∷ [])
+            (layer_at (looks_of_value self.now) (location_of at)) }
+    {
+        let store = &self.store;
+        let Some(beside) = self.plain_at(other) else {
+            return false;
+        };
+        match self.plain_at(at) {
+            Some(top) => overlaps_one_of(store, &[beside], top),
+            None => false,
+        }
+    }
+
+    // Whether the upper or the work directory of a new overlay overlaps a layer of an overlay, if it is given.
+    fn is_layered(&self, at: Option<Location>) -> bool
+        requires { list_any (is_overlay_at (looks_of_value self.now)) (option_to_list (option_map location_of at))
+            ≡ false }
+        ensures { result ≡ list_any (overlaps_one_of nat_eq (world_of self.now) (live_layers (world_of self.now)))
+            (option_to_list (option_map (layer_at (looks_of_value self.now)) (option_map location_of at))) }
+    {
+        let store = &self.store;
+        let Some(at) = at else {
+            return false;
+        };
+        match self.plain_at(at) {
+            Some(top) => overlaps_live(store, top),
+            None => false,
+        }
     }
 
     // Whether a namespace has too many mounts once an overlay is mounted here.

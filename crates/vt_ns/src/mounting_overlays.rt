@@ -1,5 +1,5 @@
 //! The event that mounts an overlay: mount(2) of overlayfs.
-ghost use Rattle.std.specs.Prelude.{◌≡◌, ◌+◌, ◌*◌, All, IfOk, length, map, nat_eq, OnErr, OnOk};
+ghost use Rattle.std.specs.Prelude.{◌≡◌, ◌+◌, ◌*◌, ◌||◌, All, IfOk, None, is_some, length, map, nat_eq, OnErr, OnOk};
 ghost use Rattle.vt_cred.specs.MountFlags.{flags_of};
 ghost use Rattle.vt_mounting.specs.Detach.Events.{layer_kept};
 ghost use Rattle.vt_location.specs.Locations.{location_of};
@@ -18,9 +18,9 @@ use crate::world::World;
 use std::alloc::{AllocError, Global};
 use vt_cred::MountFlags;
 use vt_location::{Birth, FilesystemId, InodeRef, Mount, MountId, NodeRef, Propagation};
-use vt_mounting::attach::overlaid::attach_overlay;
+use vt_mounting::attach::overlaid::{NewOverlay, attach_overlay};
 use vt_overlay::LayerRef;
-use vt_permits::{LowerLayer, ToMountOverlay};
+use vt_permits::{NewLayer, ToMountOverlay};
 use vt_propagate::{Counts, Graft, parts};
 use vt_request::TaskName;
 
@@ -28,8 +28,9 @@ impl World {
     /// Mounts a new overlay of these lower layers, the highest first, with the caller as its mounter: mount(2) of
     /// overlayfs. Each receiver of the destination's mount gets a mount of it too.
     ///
-    /// It fails too where no number is left, or an inode or a filesystem would have more than 2^64 - 1 uses. Each mount
-    /// that it makes takes as many numbers as a tree of two mounts: those of the filesystem and its root lie between.
+    /// It fails too where no number is left, or an inode or a filesystem would have more than 2^64 - 1 uses, and where the
+    /// overlay has an upper layer, which no overlay of a world has yet (`no_upper`). Each mount that it makes takes as many
+    /// numbers as a tree of two mounts: those of the filesystem and its root lie between.
     pub fn mount_overlay(&mut self, name: &TaskName, new: ToMountOverlay) -> Result<(), AllocError>
         requires { GrantsOverlay self.old name.now new }
         ensures vacant { OnOk result (NextFilesystemIsNew self.old) }
@@ -37,10 +38,11 @@ impl World {
         ensures counts { OnOk result (self.new.next
             ≡ self.old.next + 4 * length (parts_of nat_eq (world_of self.old) (location_of new.destination))) }
         ensures births { self.new.births ≡ self.old.births }
+        ensures no_upper { OnOk result ((new.upper ≡ None) × (new.work ≡ None)) }
         ensures err { OnErr result (self.new ≡ self.old) }
     {
         let alloc = self.mounts.alloc();
-        if self.next == u64::MAX {
+        if self.next == u64::MAX || has_upper(&new) {
             return Err(AllocError);
         }
         let place = new.destination;
@@ -60,24 +62,32 @@ impl World {
             place,
             moves: false,
         };
-        let counts = Counts {
-            first: self.next + 1,
-            step: 2,
-        };
-        attach_overlay(
-            alloc,
-            &mut self.mounts,
-            &mut self.groups,
-            &mut self.store,
+        let overlay = NewOverlay {
             filesystem,
             lowers,
             mounter,
+            counts: Counts {
+                first: self.next + 1,
+                step: 2,
+            },
+        };
+        attach_overlay(
+            &mut self.mounts,
+            &mut self.groups,
+            &mut self.store,
+            overlay,
             &graft,
-            counts,
         )?;
         self.next += taken;
         Ok(())
     }
+}
+
+// Whether a new overlay has an upper or a work directory.
+fn has_upper(new: &ToMountOverlay) -> bool
+    ensures { result ≡ (is_some new.now.upper || is_some new.now.work) }
+{
+    new.upper.is_some() || new.work.is_some()
 }
 
 // The mount of a new overlay that is copied to its destination. It has the number of the overlay, and its root is the
@@ -103,7 +113,7 @@ fn mount_of_overlay(filesystem: FilesystemId, top: usize, flags: MountFlags) -> 
 }
 
 // The layers of a grant, as they are kept.
-fn layers_kept(alloc: Global, lowers: &[LowerLayer]) -> Result<Vec<LayerRef>, AllocError>
+fn layers_kept(alloc: Global, lowers: &[NewLayer]) -> Result<Vec<LayerRef>, AllocError>
     requires { All IsPlainLayer lowers.now }
     ensures ok { IfOk result (λ kept. kept.items ≡ map (λ lower. layer_kept (layer_of lower)) lowers.now) }
 {
@@ -115,7 +125,7 @@ fn layers_kept(alloc: Global, lowers: &[LowerLayer]) -> Result<Vec<LayerRef>, Al
 }
 
 // A layer of a grant, as it is kept.
-fn kept_layer(lower: LowerLayer) -> LayerRef
+fn kept_layer(lower: NewLayer) -> LayerRef
     requires { IsPlainLayer lower }
     ensures { result ≡ layer_kept (layer_of lower) }
 {

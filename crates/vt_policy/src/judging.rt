@@ -212,7 +212,7 @@ fn judge_mount<L: LookAtLayers>(
             path,
             options,
             flags,
-        } => mount_overlay(alloc, world, who, path, options, flags),
+        } => mount_overlay(alloc, world, who, path, &options, flags),
         MountCall::Bind {
             source,
             path,

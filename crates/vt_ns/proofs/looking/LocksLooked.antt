@@ -34,7 +34,7 @@ any_alike one other [] same = refl
 any_alike one other (a ∷ rest) same = λ i. same a (inl refl) i || any_alike one other rest (λ b m. same b (inr m)) i
 
 -- an inode of a plain filesystem was born there
-born_plain : (plain : Filesystems) → ((entry : FilesystemEntry) → Among entry plain → HasOwnInodes entry) → (count : ℕ)
+pub born_plain : (plain : Filesystems) → ((entry : FilesystemEntry) → Among entry plain → HasOwnInodes entry) → (count : ℕ)
     (node : NodeRef) → is_small_node node ≡ true
     → is_some ((files_at plain count).tree.node (number_of node)) ≡ true → node.birth ≡ Here
 born_plain plain own count node small there = by (entry_of plain count) refl there
@@ -67,7 +67,7 @@ module _ (base : WorldValue) (store : StoreValue) (held : IsHeld (with_store sto
   world = world_of (with_store store base)
 
   -- no upper inode counts as under a layer
-  uncounted : (filesystem number : ℕ) (layer : Layer ℕ)
+  pub uncounted : (filesystem number : ℕ) (layer : Layer ℕ)
       → list_any (counts_as_in_layer nat_eq world filesystem number layer) (overlays world) ≡ false
   uncounted filesystem number layer =
       none_from_among (counts_as_in_layer nat_eq world filesystem number layer) (overlays world) (λ merged m.

@@ -35,7 +35,7 @@ pub met_above : (mounts : List (Mount ℕ)) (top steps number : ℕ) (place : Lo
 met_above mounts top steps number place other is = λ i. other i
     || holds_of (λ place. meets mounts top steps place.mount) (is i)
 
-any_either : {A : Type 0} (one other : A → Bool) (list : List A)
+pub any_either : {A : Type 0} (one other : A → Bool) (list : List A)
     → list_any (λ a. one a || other a) list ≡ (list_any one list || list_any other list)
 any_either one other [] = refl
 any_either one other (a ∷ rest) = ap (λ b. (one a || other a) || b) (any_either one other rest)

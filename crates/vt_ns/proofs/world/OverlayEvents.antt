@@ -1,5 +1,5 @@
 -- The event that mounts an overlay: what its permit names, and what is kept of it.
-use Rattle.std.proofs.Common.{◌≡◌, ◌<◌, ◌∙◌, refl, sym, ap, subst, ℕ, true, true≢false, not, nat_lt, lt-ltb, ◌&&◌, ◌/◌, List, [], ◌∷◌, length, map, Some, arith, All, nat_le, slice_get}
+use Rattle.std.proofs.Common.{◌≡◌, ◌<◌, ◌∙◌, refl, sym, ap, subst, ℕ, true, true≢false, not, nat_lt, lt-ltb, ◌&&◌, ◌||◌, ◌/◌, false, is_some, Option, List, [], ◌∷◌, length, map, None, Some, option_map, arith, All, nat_le, slice_get}
 use Rattle.vt_spec.proofs.Common.{Credentials, Task, TaskName, and_parts, is_empty_list, length-map, list_all, map_twice, most_lowers, task_called}
 use Rattle.vt_ns.proofs.Common.{Among, IsHeld, OverlayValue, StoreValue, WorldValue, all_from_among, among-map, counted, flags_of, here_number, inode_number, is_own_number, layer_kept, layer_of, location_of, number_of, overlay_of_store, overlay_seen, overlays_of_store, supply_of, with_store, world_of}
 use Rattle.vt_laws_mounts.proofs.letting_go.Lists.{list_all_from_among}
@@ -13,7 +13,7 @@ use Rattle.vt_overlay.specs.declared.merge.layers.LayerRef.{LayerRef}
 use Rattle.vt_overlay.specs.MergedTree.{AreLayers, merged_tree}
 use Rattle.vt_overlay.proofs.RootFound.{root_number_is}
 use Rattle.vt_permits.specs.GrantValue.{overlay_of, overlay_permit}
-use Rattle.vt_permits.specs.declared.grant.LowerLayer.{LowerLayer}
+use Rattle.vt_permits.specs.declared.grant.NewLayer.{NewLayer}
 use Rattle.vt_permits.specs.declared.grant.ToMountOverlay.{ToMountOverlay}
 use Rattle.vt_propagate.specs.Seen.{is_mounted}
 use Rattle.vt_store.specs.OverlaysValue as stored
@@ -25,6 +25,13 @@ use Rattle.vt_mounting.proofs.attach.NewFilesystems.{number_below}
 use Rattle.vt_ns.specs.OverlayMounts.{IsPlainLayer}
 use Rattle.vt_ns.proofs.world.BoundEvents.{place_mounted}
 
+-- an overlay that has neither an upper nor a work directory
+pub neither_there : {A : Type 0} (upper work : Option A) → (is_some upper || is_some work) ≡ false
+    → (upper ≡ None) × (work ≡ None)
+neither_there None None none = (refl, refl)
+neither_there None (Some work) none = absurd (true≢false none)
+neither_there (Some upper) work none = absurd (true≢false none)
+
 -- the task of this name is given the permit of a call that mounts this overlay
 pub record PermitsOverlay (value : WorldValue) (name : TaskName) (new : ToMountOverlay) : Type 0 where
   pub task : Task ℕ
@@ -32,10 +39,10 @@ pub record PermitsOverlay (value : WorldValue) (name : TaskName) (new : ToMountO
   pub given : IsGivenToTask (supply_of value (overlay_permit task new)) (world_of value) task (overlay_permit task new)
 
 -- a layer of a plain filesystem is kept by its slot
-abbrev pub kept_by_slot : LowerLayer → LayerRef
+abbrev pub kept_by_slot : NewLayer → LayerRef
 kept_by_slot lower = record { directory = record { filesystem = lower.filesystem; slot = lower.directory.slot } }
 
-pub kept_as_it_is : (lower : LowerLayer) → lower.directory.slot < 18446744073709551616 → IsPlainLayer lower
+pub kept_as_it_is : (lower : NewLayer) → lower.directory.slot < 18446744073709551616 → IsPlainLayer lower
     → kept_by_slot lower ≡ layer_kept (layer_of lower)
 kept_as_it_is lower small plain =
     λ i. record { directory = record { filesystem = record { count = sym count i }; slot = sym slot i } }
@@ -64,7 +71,10 @@ overlays_below base store whole =
     lt-ltb entry.count base.next (omega (arith, low)))
 
 module _ (value : WorldValue) (whole : IsHeld value) (name : TaskName) (new : ToMountOverlay)
-    (permits : PermitsOverlay value name new) where
+    (permits : PermitsOverlay value name new) (no_upper : new.upper ≡ None) where
+  no_layer : (overlay_of permits.task new).upper ≡ None
+  no_layer = ap (option_map layer_of) no_upper
+
   may : MayBeMounted (world_of value) (supply_of value (overlay_permit permits.task new)) permits.task
       (location_of new.destination) (overlay_of permits.task new) (flags_of new.flags)
   may = given_overlays_may_be_mounted (world_of value) (supply_of value (overlay_permit permits.task new)) permits.task
@@ -78,10 +88,10 @@ module _ (value : WorldValue) (whole : IsHeld value) (name : TaskName) (new : To
   pub layers_are_plain : All IsPlainLayer new.lowers.items
   layers_are_plain = all_from_among IsPlainLayer new.lowers.items plain
     where
-      plain : (lower : LowerLayer) → Among lower new.lowers.items → IsPlainLayer lower
+      plain : (lower : NewLayer) → Among lower new.lowers.items → IsPlainLayer lower
       plain lower m =
           let is_in : IsSeenIn value.filesystems (counted lower.filesystem.count) (number_of lower.directory) =
-          layer_in value whole (overlay_of permits.task new) refl may.layers (layer_of lower)
+          layer_in value whole (overlay_of permits.task new) no_layer may.layers (layer_of lower)
           (among-map layer_of new.lowers.items lower m) in
           subst (λ count. is_own_number count (number_of lower.directory) ≡ true)
           (sym (counted_same lower.filesystem.count is_in.entry.count is_in.number_is)) is_in.own
@@ -93,7 +103,7 @@ module _ (value : WorldValue) (whole : IsHeld value) (name : TaskName) (new : To
       (not (is_empty_list (overlay_of permits.task new).lowers)
       && nat_le (length (overlay_of permits.task new).lowers) most_lowers) _ may.fit).0).0
     where
-      by : (lowers : List LowerLayer) → not (is_empty_list (map layer_of lowers)) ≡ true → 0 < length lowers
+      by : (lowers : List NewLayer) → not (is_empty_list (map layer_of lowers)) ≡ true → 0 < length lowers
       by [] e = absurd (true≢false (sym e))
       by (lower ∷ lowers) e = omega arith
 
@@ -115,7 +125,7 @@ module _ (value : WorldValue) (whole : IsHeld value) (name : TaskName) (new : To
 
     pub layers_are_kept : AreLayers value.filesystems lowers
     layers_are_kept = subst (AreLayers value.filesystems) (sym lowers_again)
-        (kept_layers value whole (overlay_of permits.task new) refl may.layers).0
+        (kept_layers value whole (overlay_of permits.task new) no_layer may.layers).0
 
     pub some_kept : 0 < length lowers
     some_kept =

@@ -1,5 +1,5 @@
 -- The event that mounts an overlay, as code does it: what it attaches, and the world that it leaves.
-use Rattle.std.proofs.Common.{◌≡◌, ◌<◌, ◌∙◌, refl, sym, ap, subst, ℕ, nat_eq, true, false, ◌+◌, ◌*◌, ◌%◌, ◌==◌, List, [], ◌∷◌, ◌++◌, length, map, Some, slice_get, arith}
+use Rattle.std.proofs.Common.{◌≡◌, ◌<◌, ◌∙◌, refl, sym, ap, subst, ℕ, nat_eq, true, false, ◌+◌, ◌*◌, ◌%◌, ◌==◌, List, [], ◌∷◌, ◌++◌, length, map, None, Some, option_map, slice_get, arith}
 use Rattle.vt_spec.proofs.Common.{Credentials, SameWorlds, Task, TaskName, ToMountOverlay as MeansToMerge, list_all, new_mount, parts_of, same_Some, common_steps}
 use Rattle.vt_ns.proofs.Common.{Grouping, IsGrafted, IsHeld, MountEntry, StoreValue, WorldValue, are_ascending, counted, flags_of, inode_number, kept, layer_kept, layer_of, location_of, mount_of, mounts_in, overlay_of_store, supply_of, with_store, world_of}
 use Rattle.vt_laws_worlds.specs.Given.LeftWorlds.{IsGivenToTask}
@@ -26,6 +26,8 @@ use Rattle.vt_spec.specs.Machine.Mounts as meant
 pub record MountsIt (base : WorldValue) (store : StoreValue) (name : TaskName) (new : ToMountOverlay) : Type 0 where
   pub whole : IsHeld (with_store store base)
   pub permits : PermitsOverlay (with_store store base) name new
+  pub no_upper : new.upper ≡ None
+  pub no_work : new.work ≡ None
   pub lowers : List LayerRef
   pub lowers_are : lowers ≡ map (λ lower. layer_kept (layer_of lower)) new.lowers.items
   pub mounter : Credentials
@@ -53,6 +55,8 @@ module _ (base : WorldValue) (store : StoreValue) (name : TaskName) (new : ToMou
   open it use {
     whole,
     permits,
+    no_upper,
+    no_work,
     lowers,
     lowers_are,
     mounter,
@@ -76,6 +80,13 @@ module _ (base : WorldValue) (store : StoreValue) (name : TaskName) (new : ToMou
   abbrev value : WorldValue
   value = with_store store base
 
+  -- it has neither an upper layer nor a work directory
+  no_layer : (overlay_of permits.task new).upper ≡ None
+  no_layer = ap (option_map layer_of) no_upper
+
+  no_directory : (overlay_of permits.task new).work ≡ None
+  no_directory = ap (option_map layer_of) no_work
+
   abbrev pub entry : OverlayEntry
   entry = new_overlay (record { count = base.next }) lowers mounter
 
@@ -88,13 +99,13 @@ module _ (base : WorldValue) (store : StoreValue) (name : TaskName) (new : ToMou
       ≡ new_mount (counted base.next) (overlay_of_store store.plain entry).root (flags_of new.flags) ∷ []
   tree_seen = ap (map mount_of) tree_is ∙ ap (λ (one : meant.Mount ℕ). one ∷ [])
       (mount_is ∙ ap (λ root. new_mount (counted base.next) root (flags_of new.flags))
-      (root_is_top value whole name new permits lowers lowers_are mounter mounter_is top top_is small))
+      (root_is_top value whole name new permits no_upper lowers lowers_are mounter mounter_is top top_is small))
 
   pub may_mount_overlay : MayGraft base.mounts base.groups graft counts
   may_mount_overlay =
-      may_graft value whole permits.task graft counts (overlay_of permits.task new) (flags_of new.flags) given_there refl
-      refl refl entry
-      (kept_is_overlay value whole name new permits lowers lowers_are mounter mounter_is) refl refl refl binds tree_seen
+      may_graft value whole permits.task graft counts (overlay_of permits.task new) (flags_of new.flags) given_there no_layer
+      no_directory refl entry
+      (kept_is_overlay value whole name new permits no_upper lowers lowers_are mounter mounter_is) refl refl refl binds tree_seen
       parts_are first step ascending odd
 
   -- what is attached and held leaves the world that the permit leaves
@@ -109,9 +120,9 @@ module _ (base : WorldValue) (store : StoreValue) (name : TaskName) (new : ToMou
       (with_store later (record base { mounts = mounts; groups = groups; next = next }))
   overlay_mounted small_next held later with_overlay stay mounts groups next is grows =
       let done = overlay_is_mounted base store held later whole permits.task graft counts
-      (overlay_of permits.task new) (flags_of new.flags) given_there refl refl refl entry
-      (kept_is_overlay value whole name new permits lowers lowers_are mounter mounter_is) refl refl refl
-      (layers_are_kept value whole name new permits lowers lowers_are mounter mounter_is) small_next binds tree_seen
+      (overlay_of permits.task new) (flags_of new.flags) given_there no_layer no_directory refl entry
+      (kept_is_overlay value whole name new permits no_upper lowers lowers_are mounter mounter_is) refl refl refl
+      (layers_are_kept value whole name new permits no_upper lowers lowers_are mounter mounter_is) small_next binds tree_seen
       parts_are first step ascending odd with_overlay stay mounts groups next is grows in
       let then = with_store later (record base { mounts = mounts; groups = groups; next = next }) in
       let same : SameWorlds (left_by value permits.task (overlay_permit permits.task new)) (world_of then) =

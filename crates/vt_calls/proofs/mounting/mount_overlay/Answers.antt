@@ -9,8 +9,10 @@ pub mount_overlay-requires : goal.mount_overlay-requires
 mount_overlay-requires c = overlay_granted c.args.world.now c.args.name.now c.args.new c.requires
 
 pub returns-clause-ends : goal.returns-clause-ends
-returns-clause-ends c = overlay_ends c.args.world.now c.args.name.now c.args.new c.requires _ c.mount_overlay.result c.done.result
-    c.done.ensures c.mount_overlay.ensures.vacant c.mount_overlay.ensures.ok c.mount_overlay.ensures.err
+returns-clause-ends c =
+    overlay_ends c.args.world.now c.args.name.now c.args.new c.requires _ c.mount_overlay.result c.done.result
+    c.done.ensures c.mount_overlay.ensures.no_upper c.mount_overlay.ensures.vacant c.mount_overlay.ensures.ok
+    c.mount_overlay.ensures.err
 
 pub returns-clause-counts : goal.returns-clause-counts
 returns-clause-counts c =

@@ -1,5 +1,4 @@
-use Rattle.std.proofs.Common.{Ok, Err, OnOk, Result, ap, false, is_ok, subst, sym, true≢false, ◌≡◌, ◌∙◌}
-use Rattle.vt_spec.proofs.Common.{raised}
+use Rattle.std.proofs.Common.{ap, subst, sym, ◌∙◌}
 use Rattle.vt_world.specs.WorldValue.{WorldValue}
 use Rattle.vt_calls.proofs.Numbered.{ends_seen, kept_where_done, kept_always}
 use Rattle.vt_calls.specs.Counting.{CountsForTasks}

@@ -1,4 +1,4 @@
-use Rattle.std.proofs.Common.{[], ap, arith, false, length, map, refl, subst, sym, ℕ, slice_get, ◌≡◌, ◌+◌, ◌*◌, ◌<◌, ◌∙◌, ◌∷◌, nat_eq, option_copied, option_map, All}
+use Rattle.std.proofs.Common.{[], None, ap, arith, false, length, map, refl, subst, sym, ℕ, slice_get, ◌≡◌, ◌+◌, ◌*◌, ◌<◌, ◌∙◌, ◌∷◌, nat_eq, option_copied, option_map, All}
 use Rattle.vt_spec.proofs.Common.{Task, parts_of, same_Some}
 use Rattle.vt_ns.proofs.Common.{IsHeld, WorldValue, layer_kept, layer_of, location_of, task_of, with_store, world_of}
 use Rattle.vt_ns.specs.OverlayMounts.{IsPlainLayer, MountsOverlay}
@@ -8,23 +8,27 @@ use Rattle.vt_ns.specs.Vacancy.{NextFilesystemIsNew}
 use Rattle.vt_ns.proofs.Granting.{overlay_permitted}
 use Rattle.vt_ns.proofs.world.BoundEvents.{parts_found}
 use Rattle.vt_ns.proofs.world.Counted.{as_many_mounts}
-use Rattle.vt_ns.proofs.world.OverlayEvents.{PermitsOverlay, destination_mounted, layers_are_plain, overlays_below, some_kept}
+use Rattle.vt_ns.proofs.world.OverlayEvents.{PermitsOverlay, destination_mounted, layers_are_plain, neither_there, overlays_below, some_kept}
 use Rattle.vt_ns.proofs.world.OverlaysMounted.{MountsIt, may_mount_overlay, overlay_mounted}
 use Rattle.vt_ns.proofs.world.VacantNumbers.{next_is_new}
 use Rattle.vt_ns.proofs.world.World.mount_overlay.Goals as goal
 use Rattle.vt_ns.proofs.world.World.mount_overlay.Goals.{After-graft-1, After-as_slice}
 
+-- it has neither an upper layer nor a work directory
+lower : (c : After-as_slice) → (c.args.new.upper ≡ None) × (c.args.new.work ≡ None)
+lower c = neither_there c.args.new.upper c.args.new.work (sym c.has_upper.ensures ∙ c.if-has_upper.false)
+
 -- what the task is permitted
 permits : (c : After-as_slice) → PermitsOverlay (the_view c.self.inside) c.args.name.now c.args.new
 permits c = overlay_permitted (the_view c.self.inside) c.self.invariant c.args.name.now c.args.new
-    (subst (λ value. GrantsOverlay value c.args.name.now c.args.new) (sym c.self.view_is) c.requires)
+    (subst (λ value. GrantsOverlay value c.args.name.now c.args.new) (sym c.self.view_is) c.requires) (lower c).0
     (next_is_new (the_view c.self.inside) c.self.invariant c.alloc-alloc.ensures.counted c.alloc-alloc.ensures.sources
     (omega arith))
 
 pub layers_kept-requires : goal.layers_kept-requires
 layers_kept-requires c =
     subst (All IsPlainLayer) (sym c.as_slice.ensures.value)
-    (layers_are_plain (the_view c.self.inside) c.self.invariant c.args.name.now c.args.new (permits c))
+    (layers_are_plain (the_view c.self.inside) c.self.invariant c.args.name.now c.args.new (permits c) (lower c).0)
 
 pub unwrap-requires : goal.unwrap-requires
 unwrap-requires c =
@@ -32,20 +36,25 @@ unwrap-requires c =
     let lowers_are = c.in_ok-lowers.ensures.ok
     ∙ ap (map (λ lower. layer_kept (layer_of lower))) c.as_slice.ensures.value in
     c.first.ensures.item.2 (subst (λ items. 0 < length items) (sym c.as_slice-2.ensures.value)
-    (some_kept (the_view c.self.inside) c.self.invariant c.args.name.now c.args.new allowed c.in_ok-lowers.lowers.items
+    (some_kept (the_view c.self.inside) c.self.invariant c.args.name.now c.args.new allowed
+    (lower (goal.at.unwrap-requires c).After-as_slice).0 c.in_ok-lowers.lowers.items
     lowers_are allowed.task.credentials refl))
 
 pub parts-requires : goal.parts-requires
 parts-requires c = destination_mounted (the_view c.self.inside) c.self.invariant c.args.name.now c.args.new
     (permits (goal.at.parts-requires c).After-as_slice)
+    (lower (goal.at.parts-requires c).After-as_slice).0
 
 -- what is attached
 abbrev mounts : (c : After-graft-1)
     → MountsIt (the_view c.self.inside) c.self.inside.store c.args.name.now c.args.new
 mounts c =
-    let allowed = permits (goal.at.attach_overlay-requires-clause-may c).After-as_slice in record {
+    let allowed = permits (goal.at.attach_overlay-requires-clause-may c).After-as_slice in
+    let none = lower (goal.at.attach_overlay-requires-clause-may c).After-as_slice in record {
       whole = c.self.invariant;
       permits = allowed;
+      no_upper = none.0;
+      no_work = none.1;
       lowers = c.in_ok-lowers.lowers.items;
       lowers_are = c.in_ok-lowers.ensures.ok
           ∙ ap (map (λ lower. layer_kept (layer_of lower))) c.as_slice.ensures.value;
@@ -115,6 +124,9 @@ pub returns-clause-vacant : goal.returns-clause-vacant
 returns-clause-vacant c = subst NextFilesystemIsNew c.self.view_is
     (next_is_new (the_view c.self.inside) c.self.invariant c.alloc-alloc.ensures.counted c.alloc-alloc.ensures.sources
     (omega arith))
+
+pub returns-clause-no_upper : goal.returns-clause-no_upper
+returns-clause-no_upper c = lower (goal.at.returns-clause-no_upper c).After-as_slice
 
 pub returns-clause-ok : goal.returns-clause-ok
 returns-clause-ok c =
