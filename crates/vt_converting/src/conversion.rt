@@ -33,6 +33,13 @@ pub struct Conversion<'a, 'm> {
     pub script: Option<&'a str>,
 }
 
+impl Conversion<'_, '_> {
+    /// Whether the script is run, and its answers compared with the tables.
+    pub fn checks(self) -> bool {
+        matches!(self.kind, Kind::Mountinfo { checks: true })
+    }
+}
+
 /// Writes a script to its file, or else to the output.
 pub fn hand_on_script<R: Files + Eprint + AllocGlobal, W: Write>(
     rt: &R,
@@ -83,7 +90,7 @@ pub fn convert<C: Calls, R: Files + Input + Eprint + AllocGlobal, W: Write>(
     ensures { IfErr result (λ fault. comes_before_output fault ≡ false) }
 {
     match asked.kind {
-        Kind::Mountinfo { checks } => tables::convert::<C, _, _>(rt, asked, checks, output),
+        Kind::Mountinfo { .. } => tables::convert::<C, _, _>(rt, asked, output),
         Kind::Oci => bundles::convert(rt, asked, output),
         Kind::Strace { files } => traces::convert(rt, asked, files, output),
     }

@@ -82,14 +82,13 @@ fn check<C: Calls, W: Write>(
 fn finish<C: Calls, R: Files + Eprint + AllocGlobal, W: Write>(
     rt: &R,
     asked: Conversion<'_, '_>,
-    checks: bool,
     lines: Lines,
     converted: &Converted,
     output: &mut W,
 ) -> Result<(), Fault>
     ensures { IfErr result (λ fault. comes_before_output fault ≡ false) }
 {
-    let (alloc, written) = (rt.alloc(), &converted.written);
+    let (alloc, written, checks) = (rt.alloc(), &converted.written, asked.checks());
     if !checks || asked.script.is_some() {
         hand_on_script(rt, asked, written.text.as_str(), output)?;
     }
@@ -115,7 +114,6 @@ fn finish<C: Calls, R: Files + Eprint + AllocGlobal, W: Write>(
 pub fn convert<C: Calls, R: Files + Input + Eprint + AllocGlobal, W: Write>(
     rt: &R,
     asked: Conversion<'_, '_>,
-    checks: bool,
     output: &mut W,
 ) -> Result<(), Fault>
     ensures { IfErr result (λ fault. comes_before_output fault ≡ false) }
@@ -123,9 +121,7 @@ pub fn convert<C: Calls, R: Files + Input + Eprint + AllocGlobal, W: Write>(
     let mut tables = Tables::new(rt.alloc());
     let read = read_tables(rt, asked, &mut tables);
     match (read, script_of(tables)) {
-        (Ok(lines), Ok(converted)) => {
-            finish::<C, _, _>(rt, asked, checks, lines, &converted, output)
-        }
+        (Ok(lines), Ok(converted)) => { finish::<C, _, _>(rt, asked, lines, &converted, output) }
         (Err(fault), _) => Err(fault),
         (Ok(_), Err(error)) => Err(out_of_memory(error)),
     }

@@ -1,7 +1,6 @@
 -- Filesystems in which the inodes of one have changed.
-use Rattle.std.proofs.Common.{◌≡◌, ◌≢◌, ◌∙◌, ◌+◌, ◌-◌, ◌∷◌, [], arith, ap, cond, eq-eqb, find, is_some, List, map, nat_eq, None, option_map, Option, refl, Some, sym, true, ℕ, false, Bool}
-use Rattle.vt_spec.proofs.Common.{FileTree, Inodes, Make, Node, changed, common_steps, is_directory_node, node_in, none_is_some, same_Some, tree_of}
-use Rattle.vt_spec.specs.Inodes as counting
+use Rattle.std.proofs.Common.{◌≡◌, ◌∙◌, ◌+◌, ◌-◌, ◌∷◌, [], arith, ap, cond, eq-eqb, find, is_some, List, map, nat_eq, None, option_map, Option, refl, Some, sym, true, ℕ, false, Bool}
+use Rattle.vt_spec.proofs.Common.{Inodes, common_steps, none_is_some, same_Some}
 use Rattle.vt_spec.specs.TreeInvariant.{IsDirectory}
 use Rattle.vt_fs.proofs.Standing.{count_found}
 use Rattle.vt_fs.specs.FilesystemsValue.{ChangesInodes, FilesystemEntry, Filesystems, Shown, entry_at, entry_of, files_at, giving_back, inodes_at, inodes_promised, inodes_seen, no_entry, promising, shown, shown_entry, shown_if, shown_with, with_changed, without}
@@ -60,6 +59,15 @@ module _ (count : ℕ) (change : Inodes ℕ → Inodes ℕ) (old new : Filesyste
       by None now e f s = cc
       by (Some was) None e f s = none_is_some _ (entries_after (Some was) None e f)
       by (Some was) (Some now) e f s = ap is_some f
+
+  pub was_there : is_some (entry_of new count) ≡ true → is_some (entry_of old count) ≡ true
+  was_there there = by (entry_of old count) (entry_of new count) refl refl there
+    where
+      by : (was now : Option FilesystemEntry) → entry_of old count ≡ was → entry_of new count ≡ now
+          → is_some now ≡ true → is_some (entry_of old count) ≡ true
+      by None None e f s = cc
+      by None (Some now) e f s = none_is_some _ (sym (entries_after None (Some now) e f))
+      by (Some was) now e f s = ap is_some e
 
 -- one change after another
 shown-twice : (count : ℕ) (first second : Inodes ℕ → Inodes ℕ) (all : List Shown)

@@ -1,20 +1,19 @@
 -- What a plan makes is the definitions' copy.
-use Rattle.std.proofs.Common.{◌≡◌, ◌∙◌, ◌∷◌, ◌++◌, [], ap, length, List, map, nat_eq, refl, Some, subst, suc, sym, ℕ}
+use Rattle.std.proofs.Common.{◌≡◌, ◌∙◌, ◌∷◌, ◌++◌, [], ap, length, List, map, nat_eq, refl, Some, subst, sym, ℕ}
 use Rattle.vt_spec.proofs.Common.{Content, FileTree, Fresh, Make, Node, changed, map_twice}
 use Rattle.vt_spec.specs.Machine.CopyUp.{Stack}
 use Rattle.vt_spec.specs.Tree.Content.{Directory, Regular, Symlink, Whiteout}
 use Rattle.vt_laws_trees.proofs.layers.layers.ShownPaths.{length_longer}
 use Rattle.vt_location.specs.Locations.{inode_of}
 use Rattle.vt_location.specs.Numbers.{inode_number}
-use Rattle.vt_fs.specs.FilesystemsValue.{files_at}
 use Rattle.vt_laws_worlds.proofs.seen.copied.InTurn.{copies_in_turn}
 use Rattle.vt_laws_worlds.specs.Merging.UpperChanges.{copied_to, copy_node, led_above}
 use Rattle.vt_laws_worlds.specs.Seen.CopySteps.{ArePlanned, Copy, made_in_turn}
 use Rattle.vt_copyup.specs.Copied.{bare}
 use Rattle.vt_copyup.specs.Laws.{AreHanded, PlansMakeCopies}
-use Rattle.vt_copyup.specs.Made.{Made, made_copies, made_copy}
-use Rattle.vt_copyup.specs.Planned.{names_of, stack_of}
-use Rattle.vt_copyup.specs.Plans.{copies_of, in_turn}
+use Rattle.vt_copyup.specs.Made.{Made, made_copies}
+use Rattle.vt_copyup.specs.Planned.{stack_of}
+use Rattle.vt_copyup.specs.Plans.{in_turn}
 use Rattle.vt_copyup.specs.declared.plans.Piece.{Piece}
 use Rattle.vt_copyup.specs.declared.plans.PlannedCopy.{PlannedCopy}
 
@@ -30,7 +29,7 @@ copy-bare directory node = by node.content
     by Whiteout = refl
 
 module _ (fresh : Fresh ℕ) (stack : Stack ℕ) (tree : FileTree ℕ) (upper : ℕ) where
-  made_alike : (copies : List Copy) (made : List Made) (front : List (List ℕ)) (files : FileTree ℕ) (directory : ℕ)
+  pub made_alike : (copies : List Copy) (made : List Made) (front : List (List ℕ)) (files : FileTree ℕ) (directory : ℕ)
       → ArePlanned fresh stack tree front copies
       → map (λ (copy : Copy). copy.name) copies ≡ map (λ (one : Made). one.copy.name.items) made
       → map (λ (copy : Copy). bare copy.node) copies ≡ map (λ (one : Made). one.copy.node) made

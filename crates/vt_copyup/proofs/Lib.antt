@@ -1,7 +1,12 @@
 pub mod Changed
 pub mod Copies
+pub mod ForksCopied
+pub mod ForksMade
+pub mod ForksReady
+pub mod Grown
 pub mod Making
 pub mod Next
+pub mod Parted
 pub mod Pieces
 pub mod PlansReady
 pub mod Ready

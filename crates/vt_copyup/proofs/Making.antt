@@ -1,6 +1,6 @@
 -- A copy more in a tree: what is there stays, and each entry leads to what is there.
-use Rattle.std.proofs.Common.{◌≡◌, ◌≢◌, ◌∙◌, ◌∷◌, ◌⊎◌, ◌||◌, [], ⊎_elim, arith, ap, Bool, cond, eqb-true, Equal, false, Greater, is_some, Less, List, map, nat_eq, None, option_map, Option, refl, Some, sym, true, true≢false, ℕ}
-use Rattle.vt_spec.proofs.Common.{Entries, by_order, has_entry_to, is_among, or_right, FileTree, Inode, Inodes, Make, Node, Tree, changed, common_steps, eqb_tells, entries_in, entries_of, entries-node_with_entry, inode_with_node, is_directory_node, is_some-node_with_entry, name_cmp, node_in, node_other, node_set, node_with_entry, same_Some, tree_of}
+use Rattle.std.proofs.Common.{◌≡◌, ◌≢◌, ◌∙◌, ◌∷◌, ◌||◌, [], ⊎_elim, arith, ap, Bool, cond, eqb-true, Equal, false, Greater, is_some, Less, List, map, nat_eq, None, Option, refl, Some, sym, true, true≢false, ℕ}
+use Rattle.vt_spec.proofs.Common.{Entries, by_order, has_entry_to, is_among, or_right, FileTree, Inode, Inodes, Make, Node, Tree, changed, common_steps, eqb_tells, entries_in, entries_of, entries-node_with_entry, inode_with_node, is_some-node_with_entry, name_cmp, node_in, node_other, node_set, node_with_entry, tree_of}
 use Rattle.std.specs.declared.cmp.Ordering.{Ordering}
 use Rattle.vt_spec.specs.Inodes as counting
 use Rattle.vt_spec.specs.Tree.{with_entry, with_node, with_object}

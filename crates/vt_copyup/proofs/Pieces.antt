@@ -1,8 +1,7 @@
 -- The copies of a path's fronts, from the longest on.
 use Rattle.std.proofs.Common.{◌≡◌, ◌∙◌, ◌+◌, ◌-◌, ◌<◌, ◌≤◌, ◌∷◌, ◌++◌, [], append-nil, append_assoc, arith, ap, Bool, false, IsSome, length, List, refl, slice_get, Some, subst, sym, take, true, ℕ}
 use Rattle.std.specs.Prelude.{⊤}
-use Rattle.vt_spec.proofs.Common.{Content, Node, is_directory_node, kind_of, map-append, same_Some, shown}
-use Rattle.vt_spec.specs.Machine.Merging.{layer_node}
+use Rattle.vt_spec.proofs.Common.{Content, Node, kind_of, shown}
 use Rattle.vt_spec.specs.Rights.{is_directory}
 use Rattle.vt_spec.specs.Tree.Content.{Directory, Regular, Symlink, Whiteout}
 use Rattle.vt_location.specs.declared.numbers.FilesystemId.{FilesystemId}
@@ -14,7 +13,6 @@ use Rattle.vt_copyup.specs.Copied.{copied}
 use Rattle.vt_copyup.specs.Planned.{AreCopiesFrom, IsCopyIn, names_of}
 use Rattle.vt_copyup.specs.Plans.{AreNested}
 use Rattle.vt_copyup.specs.declared.plans.Piece.{Piece}
-use Rattle.vt_copyup.specs.declared.plans.PlannedCopy.{PlannedCopy}
 use Rattle.vt_copyup.proofs.Seen.{front_is_directory, front_shown}
 use Rattle.vt_copyup.proofs.Ways.{take_all, take_next}
 

@@ -1,6 +1,5 @@
 -- A plan is ready, once all is promised.
 use Rattle.std.proofs.Common.{◌≡◌, ◌∙◌, ◌+◌, ◌<◌, ◌≤◌, ◌∷◌, ◌++◌, [], arith, ap, Bool, IsSome, is_some, length, List, None, not, option_map, Option, refl, slice_get, Some, subst, suc, sym, take, true, true≢false, zero, ℕ}
-use Rattle.std.specs.Prelude.{⊤}
 use Rattle.vt_spec.proofs.Common.{Fresh, IsDirectory, IsTree, Node, OpenLayer, Shown, Tree, at_path, common_steps, entries_in, entry_at, is_kind_in, led, none_is_some, same_Some, shown, slice_get-map, when}
 use Rattle.vt_spec.specs.Machine.Views.{visible}
 use Rattle.vt_spec.specs.Rights.{Credentials}
@@ -8,13 +7,13 @@ use Rattle.vt_laws_trees.proofs.layers.layers.ShownDirectories.{shown_in_directo
 use Rattle.vt_location.specs.declared.locations.InodeRef.{InodeRef}
 use Rattle.vt_location.specs.declared.numbers.FilesystemId.{FilesystemId}
 use Rattle.vt_location.specs.Locations.{inode_of}
-use Rattle.vt_fs.specs.FilesystemsValue.{Filesystems, files_at, inodes_promised, promising, with_changed}
+use Rattle.vt_fs.specs.FilesystemsValue.{Filesystems, files_at, promising, with_changed}
 use Rattle.vt_overlay.specs.declared.merge.layers.LayerRef.{LayerRef}
 use Rattle.vt_overlay.specs.Merge.LayerValue.{layer_of, layers_of, opened}
 use Rattle.vt_overlay.specs.MergedTree.{AreLayers}
 use Rattle.vt_births.specs.Births.{BirthsValue}
-use Rattle.vt_copyup.specs.Planned.{AreBirthsOf, AreCopiesFrom, ArePlannedBy, IsCopyIn, names_of}
-use Rattle.vt_copyup.specs.Plans.{AreNested, AreReady, CopiesAreThere, EntriesAreThere, FirstFits, Fits}
+use Rattle.vt_copyup.specs.Planned.{AreBirthsOf, AreCopiesFrom, ArePlannedBy, names_of}
+use Rattle.vt_copyup.specs.Plans.{AreNested, AreReady, EntriesAreThere, FirstFits}
 use Rattle.vt_copyup.specs.declared.plans.Piece.{Piece}
 use Rattle.vt_copyup.proofs.Changed.{is_there, promised_files, promised_more}
 use Rattle.vt_copyup.proofs.Ready.{FirstLeadsNowhere, all_apart, all_below, all_new, are_planned, entries_are_there}

@@ -1,5 +1,5 @@
 -- What is planned is ready to be made: different nodes without a copy, and room for all.
-use Rattle.std.proofs.Common.{All, ◌≡◌, ◌≢◌, ◌∙◌, ◌+◌, ◌-◌, ◌<◌, ◌≤◌, ◌∷◌, ◌++◌, [], append-nil, append_assoc, arith, ap, Bool, cond, eq-eqb, false, is_some, length, length-append, List, map, nat_eq, None, option_map, Option, refl, slice_get, Some, subst, suc, sym, true, true≢false, unwrap_or, ℕ, if◌then◌else◌}
+use Rattle.std.proofs.Common.{All, ◌≡◌, ◌≢◌, ◌∙◌, ◌∷◌, ◌++◌, [], append-nil, append_assoc, arith, ap, Bool, false, length, length-append, List, None, option_map, refl, slice_get, Some, subst, suc, sym, true, unwrap_or, ℕ, if◌then◌else◌}
 use Rattle.std.specs.Prelude.{⊤}
 use Rattle.vt_spec.proofs.Common.{All-cons, All-nil, Content, IsDirectory, Node, OpenLayer, Tree, Fresh, at_path, common_steps, entry_at, is_directory_node, is_root_path, kind_of, led, none_is_some, same_Some, shown, slice_get-map, then_some}
 use Rattle.vt_spec.proofs.NodeChanges.{entry_from}
@@ -17,13 +17,13 @@ use Rattle.vt_location.specs.SameNodes.{same_node}
 use Rattle.vt_location.proofs.NumberLemmas.{exchanged_same}
 use Rattle.vt_fs.specs.FilesystemsValue.{Filesystems, files_at}
 use Rattle.vt_overlay.specs.declared.merge.layers.LayerRef.{LayerRef}
-use Rattle.vt_overlay.specs.Merge.LayerValue.{layer_of, layers_of, opened}
+use Rattle.vt_overlay.specs.Merge.LayerValue.{layer_of, layers_of}
 use Rattle.vt_overlay.specs.MergedTree.{AreLayers, birth_at, node_born, rank_at, slot_at}
 use Rattle.vt_births.proofs.Nodes.{same_node-is}
 use Rattle.vt_births.specs.Births.{BirthsValue, copy_of, is_below, is_born_below}
-use Rattle.vt_laws_worlds.specs.Seen.CopySteps.{ArePlanned, Copy}
+use Rattle.vt_laws_worlds.specs.Seen.CopySteps.{Copy}
 use Rattle.vt_copyup.specs.Copied.{copied}
-use Rattle.vt_copyup.specs.Planned.{AreBirthsOf, AreCopiesFrom, ArePlannedBy, IsCopyIn, IsNodeAt, names_of, stack_of}
+use Rattle.vt_copyup.specs.Planned.{AreBirthsOf, AreCopiesFrom, ArePlannedBy, IsCopyIn, IsNodeAt}
 use Rattle.vt_copyup.specs.Plans.{AreApart, AreNested, EntriesAreThere}
 use Rattle.vt_copyup.specs.declared.plans.Piece.{Piece}
 use Rattle.vt_copyup.proofs.Ways.{nowhere_next}
@@ -82,7 +82,7 @@ module _ (trees : Filesystems) (layers : List LayerRef) (overlay : FilesystemId)
 
   -- a node that is shown in a directory is at one path
   module _ (are : AreLayers trees layers) where
-    one_place : (path other : List (List ℕ)) (name last : List ℕ) (one two : NodeRef)
+    pub one_place : (path other : List (List ℕ)) (name last : List ℕ) (one two : NodeRef)
         (at : IsNodeAt trees layers overlay (path ++ name ∷ []) one)
         (by : IsNodeAt trees layers overlay (other ++ last ∷ []) two)
         → IsDirectory (layer_of trees at.lower).tree at.object → one ≡ two → path ++ name ∷ [] ≡ other ++ last ∷ []
@@ -119,7 +119,7 @@ module _ (trees : Filesystems) (layers : List LayerRef) (overlay : FilesystemId)
         let longer = ap length same ∙ length-append path (word ∷ more) in absurd (let no : ⊥ = omega (arith, longer) in no)
 
     -- the inode of a node that is shown
-    inode_is : (w : Bool) (path : List (List ℕ)) (copy : Rattle.vt_copyup.specs.declared.plans.PlannedCopy.PlannedCopy)
+    pub inode_is : (w : Bool) (path : List (List ℕ)) (copy : Rattle.vt_copyup.specs.declared.plans.PlannedCopy.PlannedCopy)
         → (in_path : IsCopyIn w trees layers overlay path copy)
         → is_directory (kind_of copy.node.content) ≡ true
         → IsDirectory (layer_of trees in_path.born.lower).tree in_path.born.object

@@ -1,8 +1,7 @@
 -- What layers show on the way to an object, and the copy of it.
-use Rattle.std.proofs.Common.{◌≡◌, ◌≢◌, ◌∙◌, ◌+◌, ◌-◌, ◌<◌, ◌≤◌, ◌∷◌, ◌++◌, [], arith, ap, Bool, false, is_some, IsSome, length, List, None, not, option_map, Option, refl, slice_get, Some, subst, suc, sym, true, true≢false, unwrap_or, zero, ℕ, if◌then◌else◌}
-use Rattle.vt_spec.proofs.Common.{IsDirectory, IsTree, Node, OpenLayer, Shown, Tree, at_path, common_steps, entries_in, entry_at, is_directory_node, is_kind_in, is_root_path, kind_of, last_or, led, led-append, none_is_some, same_Some, shown, slice_get-map, slice_get_within, then_some, view_of, when, without_last}
+use Rattle.std.proofs.Common.{◌≡◌, ◌≢◌, ◌∙◌, ◌+◌, ◌<◌, ◌∷◌, ◌++◌, [], arith, ap, Bool, is_some, IsSome, length, List, None, option_map, Option, refl, slice_get, Some, subst, suc, sym, true, true≢false, unwrap_or, ℕ, if◌then◌else◌}
+use Rattle.vt_spec.proofs.Common.{IsDirectory, IsTree, Node, OpenLayer, Shown, Tree, at_path, common_steps, entries_in, entry_at, is_directory_node, is_kind_in, kind_of, last_or, led, led-append, none_is_some, same_Some, shown, slice_get-map, slice_get_within, then_some, without_last}
 use Rattle.vt_spec.specs.Machine.Merging.{layer_node}
-use Rattle.vt_spec.specs.Machine.Views.{visible}
 use Rattle.vt_spec.specs.Rights.{is_directory}
 use Rattle.vt_spec.specs.Tree.{Content}
 use Rattle.vt_spec.specs.Tree.Content.{Directory, Regular, Symlink, Whiteout}
@@ -11,7 +10,6 @@ use Rattle.vt_laws_trees.proofs.layers.layers.ShownDirectories.{AreOpen, shown_i
 use Rattle.vt_laws_trees.proofs.layers.layers.ShownPaths.{last_of_longer, root_of_longer}
 use Rattle.vt_laws_trees.proofs.layers.layers.UpperShown.{without_last_of_longer}
 use Rattle.vt_node.specs.Ranks.{rank_among}
-use Rattle.vt_location.specs.declared.births.Birth.{Birth}
 use Rattle.vt_location.specs.declared.births.Birth.TheVariants.{Below, Here}
 use Rattle.vt_location.specs.declared.locations.NodeRef.{NodeRef}
 use Rattle.vt_location.specs.declared.numbers.FilesystemId.{FilesystemId}
@@ -24,8 +22,7 @@ use Rattle.vt_overlay.specs.Merge.EntryValue.{IsFirstEntry, entry_shown}
 use Rattle.vt_overlay.specs.Merge.LayerValue.{layer_of, layers_of, opened}
 use Rattle.vt_overlay.specs.MergedTree.{AreLayers, birth_at, node_born, slot_at}
 use Rattle.vt_copyup.specs.Copied.{bare, content_copied, copied}
-use Rattle.vt_copyup.specs.Planned.{IsCopyIn, IsNodeAt}
-use Rattle.vt_copyup.specs.declared.plans.PlannedCopy.{PlannedCopy}
+use Rattle.vt_copyup.specs.Planned.{IsNodeAt}
 
 -- a copy is the same of an inode by slots and by numbers
 pub bare-seen : (f : ℕ) (node : Node ℕ) → bare (node_seen f node) ≡ bare node

@@ -1,7 +1,7 @@
 -- Copies made one after the other.
-use Rattle.std.proofs.Common.{All, ◌≡◌, ◌≢◌, ◌∙◌, ◌+◌, ◌<◌, ◌≤◌, ◌∷◌, ◌++◌, [], append_assoc, arith, ap, Bool, cond, false, is_some, length, length-append, List, map, nat_eq, None, Option, refl, Some, subst, suc, sym, true, true≢false, ℕ, if◌then◌else◌}
+use Rattle.std.proofs.Common.{◌≡◌, ◌≢◌, ◌∙◌, ◌+◌, ◌<◌, ◌∷◌, ◌++◌, [], arith, ap, Bool, cond, false, is_some, length, length-append, List, nat_eq, None, Option, refl, Some, subst, sym, true, true≢false, ℕ, if◌then◌else◌}
 use Rattle.std.specs.Prelude.{⊤}
-use Rattle.vt_spec.proofs.Common.{FileTree, Inodes, Make, Node, Tree, All-head, All-tail, changed, common_steps, directory_used, entries_in, entries_of, entry_at, eqb_tells, is_directory_node, kind_of, map-append, nat_eq_itself, none_is_some, tree_of}
+use Rattle.vt_spec.proofs.Common.{FileTree, Inodes, Make, Node, Tree, All-tail, changed, common_steps, directory_used, entries_in, entries_of, is_directory_node, kind_of, map-append, tree_of}
 use Rattle.vt_spec.specs.Inodes as counting
 use Rattle.vt_spec.specs.Rights.{is_directory}
 use Rattle.vt_spec.specs.Tree.{Content}
@@ -18,15 +18,15 @@ use Rattle.vt_fs.specs.FilesystemsValue.{ChangesInodes, Filesystems, files_at, i
 use Rattle.vt_laws_worlds.specs.Merging.UpperChanges.{copy_node}
 use Rattle.vt_laws_worlds.specs.Seen.CopySteps.{Copy, made_in_turn}
 use Rattle.vt_births.specs.Births.{BirthsValue, copy_of, is_born_below, node_of}
-use Rattle.vt_copyup.specs.Made.{AreMade, Made, last_made, made_copies, made_copy, nodes_with, slots_with, with_copies}
-use Rattle.vt_copyup.specs.Plans.{AreApart, AreNested, AreReady, CopiesAreThere, EntriesAreThere, FirstFits, Fits}
+use Rattle.vt_copyup.specs.Made.{AreFree, AreMade, Made, last_made, made_copies, made_copy, nodes_with, parent_made, slots_with, with_copies}
+use Rattle.vt_copyup.specs.Plans.{AreNested, AreReady, CopiesAreThere, EntriesAreThere, Fits}
 use Rattle.vt_copyup.specs.declared.plans.Piece.{Piece}
 use Rattle.vt_copyup.specs.declared.plans.PlannedCopy.{PlannedCopy}
-use Rattle.vt_copyup.proofs.Changed.{changes_then, inodes_after, is_there, nothing_changes}
-use Rattle.vt_copyup.proofs.Making.{alive_after, entries_new, node_new, stays_there, tree_grown, tree_made}
+use Rattle.vt_copyup.proofs.Changed.{changes_then, inodes_after, is_there, nothing_changes, was_there}
+use Rattle.vt_copyup.proofs.Making.{alive_after, node_new, stays_there, tree_grown, tree_made}
 
 -- the inode after copies
-abbrev last_number : ℕ → List Copy → ℕ
+abbrev pub last_number : ℕ → List Copy → ℕ
 last_number directory [] = directory
 last_number directory (copy ∷ rest) = last_number copy.number rest
 
@@ -38,6 +38,18 @@ with_copies-append [] copy inodes directory = refl
 with_copies-append (first ∷ copies) copy inodes directory = with_copies-append copies copy
     (counting.changed nat_eq inodes (Make directory first.name first.number (copy_node directory first.node)))
     first.number
+
+free-append : (copies : List Copy) (copy : Copy) (inodes : Inodes ℕ) (directory : ℕ)
+    → AreFree inodes directory copies
+    → (tree_of (with_copies inodes directory copies)).node copy.number ≡ None
+    → AreFree inodes directory (copies ++ copy ∷ [])
+free-append [] copy inodes directory are free = (free, tt)
+free-append (first ∷ copies) copy inodes directory are free = (
+  are.0,
+  free-append copies copy
+      (counting.changed nat_eq inodes (Make directory first.name first.number (copy_node directory first.node)))
+      first.number are.1 free,
+)
 
 made_in_turn-append : (copies : List Copy) (copy : Copy) (files : FileTree ℕ) (directory : ℕ)
     → made_in_turn files directory (copies ++ copy ∷ [])
@@ -67,7 +79,14 @@ last_made-append [] one directory = refl
 last_made-append (first ∷ made) one directory =
     last_made-append made one (record { filesystem = directory.filesystem; slot = first.slot })
 
-last_number_is : (made : List Made) (directory : InodeRef)
+pub parent_made-append : (made : List Made) (one : Made) (directory : InodeRef)
+    → parent_made directory (made ++ one ∷ []) ≡ last_made directory made
+parent_made-append [] one directory = refl
+parent_made-append (first ∷ []) one directory = refl
+parent_made-append (first ∷ next ∷ made) one directory =
+    parent_made-append (next ∷ made) one (record { filesystem = directory.filesystem; slot = first.slot })
+
+pub last_number_is : (made : List Made) (directory : InodeRef)
     → inode_of (last_made directory made)
     ≡ last_number (inode_of directory) (made_copies directory.filesystem.count made)
 last_number_is [] directory = refl
@@ -95,7 +114,7 @@ pub record IsStep (copy : PlannedCopy) (here : InodeRef) (old : Filesystems) (bi
   pub births_left : births_new.promised + 1 ≡ births.promised
 
 -- a copy has no entries, and is a directory if that is copied
-entries-copy : (parent : ℕ) (node : Node ℕ) → entries_of (copy_node parent node).content ≡ []
+pub entries-copy : (parent : ℕ) (node : Node ℕ) → entries_of (copy_node parent node).content ≡ []
 entries-copy parent node = by node.content
   where
     by : (content : Content ℕ) → entries_of (Rattle.vt_spec.specs.Machine.CopyUp.copied_content parent content) ≡ []
@@ -104,7 +123,7 @@ entries-copy parent node = by node.content
     by (Symlink text) = refl
     by Whiteout = refl
 
-directory-copy : (parent : ℕ) (node : Node ℕ) → is_directory (kind_of node.content) ≡ true
+pub directory-copy : (parent : ℕ) (node : Node ℕ) → is_directory (kind_of node.content) ≡ true
     → is_directory (kind_of (copy_node parent node).content) ≡ true
 directory-copy parent node = by node.content
   where
@@ -184,7 +203,7 @@ abbrev pub OwnFits : List Piece → InodeRef → Filesystems → Type 0
 OwnFits [] here trees = ⊤
 OwnFits (piece ∷ rest) here trees = Fits piece.copy piece.room here trees
 
-nested_tail : (piece : Piece) (rest : List Piece) → AreNested (piece ∷ rest) → AreNested rest
+pub nested_tail : (piece : Piece) (rest : List Piece) → AreNested (piece ∷ rest) → AreNested rest
 nested_tail piece [] nested = tt
 nested_tail piece (next ∷ rest) nested = nested.2
 
@@ -241,6 +260,7 @@ none_made directory trees births = record {
   made = [];
   all = refl;
   inodes = nothing_changes directory.filesystem.count trees;
+  free = tt;
   tree = refl;
   nodes = refl;
   slots = refl;
@@ -248,6 +268,12 @@ none_made directory trees births = record {
   inodes_left = omega arith;
   births_left = omega arith;
 }
+
+-- nor a parent
+pub none_parent : (directory : InodeRef) (trees : Filesystems) (births : BirthsValue)
+    → directory ≡ parent_made directory (none_made directory trees births).made
+unfolding none_made
+none_parent directory trees births = refl
 
 -- one copy more
 module _ (directory : InodeRef) (done : List PlannedCopy) (copy : PlannedCopy) (start : Filesystems)
@@ -285,11 +311,30 @@ module _ (directory : InodeRef) (done : List PlannedCopy) (copy : PlannedCopy) (
         (inode_of directory))
         ∙ ap (made_in_turn (files_at start upper) (inode_of directory)) (sym copies)
 
+  -- it was free
+  vacant_then : (slot : ℕ) (last : InodeRef)
+      → (are : AreMade directory done start births_start old births
+      (record { filesystem = directory.filesystem; slot = slot }))
+      → IsStep copy (record { filesystem = directory.filesystem; slot = slot }) old births new births_new last
+      → IsDirectory (files_at old upper).tree (inode_number upper slot)
+      → inode_number upper last.slot ≡ inode_of last
+      → (tree_of (with_copies (inodes_at start upper) (inode_of directory) (made_copies upper are.made))).node
+      (inode_number upper last.slot) ≡ None
+  vacant_then slot last are step in_directory own =
+      let change : Inodes ℕ → Inodes ℕ =
+      λ inodes. with_copies inodes (inode_of directory) (made_copies upper are.made) in
+      let there = was_there upper change start old are.inodes
+      (is_there old upper (inode_number upper slot) in_directory) in
+      ap (λ (all : Inodes ℕ). (tree_of all).node (inode_number upper last.slot))
+      (sym (inodes_after upper change start old are.inodes there))
+      ∙ ap (λ n. (files_at old upper).tree.node n) own ∙ step.vacant
+
   one_more_here : (slot : ℕ) (last : InodeRef)
       → AreMade directory done start births_start old births (record { filesystem = directory.filesystem; slot = slot })
       → IsStep copy (record { filesystem = directory.filesystem; slot = slot }) old births new births_new last
       → IsDirectory (files_at old upper).tree (inode_number upper slot)
-      → AreMade directory (done ++ copy ∷ []) start births_start new births_new last
+      → (made : AreMade directory (done ++ copy ∷ []) start births_start new births_new last)
+      × (record { filesystem = directory.filesystem; slot = slot } ≡ parent_made directory made.made)
   one_more_here slot last are step in_directory =
       let new_one : Made = record { copy = copy; slot = last.slot } in
       let here : InodeRef = record { filesystem = directory.filesystem; slot = slot } in
@@ -297,7 +342,7 @@ module _ (directory : InodeRef) (done : List PlannedCopy) (copy : PlannedCopy) (
       ap inode_of are.is_last ∙ last_number_is are.made directory in
       let own : inode_number upper last.slot ≡ inode_of last =
       last_is copy here old births new births_new last step in_directory in
-      record {
+      let made : AreMade directory (done ++ copy ∷ []) start births_start new births_new last = record {
         made = are.made ++ new_one ∷ [];
         all = map-append (λ (m : Made). m.copy) are.made (new_one ∷ []) ∙ ap (λ l. l ++ copy ∷ []) are.all;
         inodes = subst (λ (change : Inodes ℕ → Inodes ℕ). ChangesInodes upper change start new)
@@ -306,6 +351,10 @@ module _ (directory : InodeRef) (done : List PlannedCopy) (copy : PlannedCopy) (
             (λ inodes. counting.changed nat_eq inodes
             (Make (inode_number upper slot) copy.name.items (inode_of last)
             (copy_node (inode_number upper slot) copy.node))) start old new are.inodes step.made);
+        free = subst (λ l. AreFree (inodes_at start upper) (inode_of directory) l)
+            (sym (copies slot last are.made number own))
+            (free-append (made_copies upper are.made) (made_copy upper new_one) (inodes_at start upper)
+            (inode_of directory) are.free (vacant_then slot last are step in_directory own));
         tree = tree_so copy here old births new births_new last step in_directory
             (made_in_turn (files_at start upper) (inode_of directory) (made_copies upper are.made)) (sym are.tree)
             ∙ ap (λ (files : FileTree ℕ). files.tree) (made_more slot last are.made number own);
@@ -318,21 +367,24 @@ module _ (directory : InodeRef) (done : List PlannedCopy) (copy : PlannedCopy) (
             ∙ sym (last_made-append are.made new_one directory);
         inodes_left = omega (arith, step.inodes_left, are.inodes_left, length-append done (copy ∷ []));
         births_left = omega (arith, step.births_left, are.births_left, length-append done (copy ∷ []));
-      }
+      } in
+      (made, are.is_last ∙ sym (parent_made-append are.made new_one directory))
 
   pub one_more : (here last : InodeRef) → AreMade directory done start births_start old births here
       → IsStep copy here old births new births_new last
       → IsDirectory (files_at old here.filesystem.count).tree (inode_of here)
-      → AreMade directory (done ++ copy ∷ []) start births_start new births_new last
+      → (made : AreMade directory (done ++ copy ∷ []) start births_start new births_new last)
+      × (here ≡ parent_made directory made.made)
   one_more here last are step in_directory =
       let same : here.filesystem ≡ directory.filesystem =
       ap (λ (l : InodeRef). l.filesystem) are.is_last ∙ last_filesystem are.made directory in
       let is : here ≡ record { filesystem = directory.filesystem; slot = here.slot } =
       (λ i. record { filesystem = same i; slot = here.slot }) in
-      one_more_here here.slot last
+      let both = one_more_here here.slot last
       (subst (λ h. AreMade directory done start births_start old births h) is are)
       (subst (λ h. IsStep copy h old births new births_new last) is step)
-      (subst (λ (h : InodeRef). IsDirectory (files_at old h.filesystem.count).tree (inode_of h)) is in_directory)
+      (subst (λ (h : InodeRef). IsDirectory (files_at old h.filesystem.count).tree (inode_of h)) is in_directory) in
+      (both.0, is ∙ both.1)
 
 -- a copy by slots is one by numbers
 pub copy_seen : (f slot : ℕ) (node : Node ℕ) → slot < 18446744073709551616

@@ -1,6 +1,6 @@
 -- Paths name by name, and where they lead.
-use Rattle.std.proofs.Common.{◌≡◌, ◌≢◌, ◌∙◌, ◌+◌, ◌-◌, ◌<◌, ◌≤◌, ◌∷◌, ◌++◌, [], append_assoc, arith, ap, length, List, None, option_and_then, Option, refl, Some, slice_get, subst, suc, sym, take, zero, ℕ}
-use Rattle.vt_spec.proofs.Common.{Tree, at_path, entry_at, led, led-append, none_is_some, same_Some, take_more, slice_get-get_or}
+use Rattle.std.proofs.Common.{◌≡◌, ◌∙◌, ◌+◌, ◌<◌, ◌≤◌, ◌∷◌, ◌++◌, [], arith, ap, length, List, None, option_and_then, refl, Some, slice_get, subst, suc, sym, take, zero, ℕ}
+use Rattle.vt_spec.proofs.Common.{Tree, at_path, entry_at, led, led-append, none_is_some, same_Some}
 use Rattle.vt_laws_trees.proofs.layers.layers.ShownNames.{last_name}
 use Rattle.vt_location.specs.declared.locations.InodeRef.{InodeRef}
 use Rattle.vt_location.specs.declared.numbers.FilesystemId.{FilesystemId}

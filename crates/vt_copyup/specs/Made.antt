@@ -1,15 +1,14 @@
 -- What plans make: copies in the upper layer, and their births. The kernel's overlayfs document, "upper and lower"
 -- (copy_up), "inode properties".
-use Rattle.std.specs.Prelude.{List, Option, Some, [], if◌then◌else◌, length, map, nat_eq, ℕ, ◌+◌, ◌∷◌, ◌≡◌}
-use Rattle.vt_spec.specs.FileTree.{FileTree}
-use Rattle.vt_spec.specs.Inodes.{Inodes, changed}
+use Rattle.std.specs.Prelude.{List, None, Option, Some, [], if◌then◌else◌, length, map, nat_eq, ℕ, ⊤, ◌+◌, ◌∷◌, ◌≡◌}
+use Rattle.vt_spec.specs.Inodes.{Inodes, changed, tree_of}
 use Rattle.vt_spec.specs.Language.Changes.Change.{Make}
 use Rattle.vt_location.specs.declared.locations.InodeRef.{InodeRef}
 use Rattle.vt_location.specs.declared.locations.NodeRef.{NodeRef}
 use Rattle.vt_location.specs.Locations.{inode_of}
 use Rattle.vt_location.specs.Numbers.{inode_number}
 use Rattle.vt_location.specs.SameNodes.{same_node}
-use Rattle.vt_fs.specs.FilesystemsValue.{ChangesInodes, Filesystems, files_at, inodes_promised}
+use Rattle.vt_fs.specs.FilesystemsValue.{ChangesInodes, Filesystems, files_at, inodes_at, inodes_promised}
 use Rattle.vt_laws_worlds.specs.Merging.UpperChanges.{copy_node}
 use Rattle.vt_laws_worlds.specs.Seen.CopySteps.{Copy, made_in_turn}
 use Rattle.vt_births.specs.Births.{BirthsValue, copy_of, node_of}
@@ -35,6 +34,14 @@ with_copies inodes directory (copy ∷ rest) =
     with_copies (changed nat_eq inodes (Make directory copy.name copy.number (copy_node directory copy.node)))
     copy.number rest
 
+-- each copy's inode is free when it is made
+abbrev pub AreFree : Inodes ℕ → ℕ → List Copy → Type 0
+AreFree inodes directory [] = ⊤
+AreFree inodes directory (copy ∷ rest) =
+    ((tree_of inodes).node copy.number ≡ None)
+    × AreFree (changed nat_eq inodes (Make directory copy.name copy.number (copy_node directory copy.node)))
+    copy.number rest
+
 -- the births of copies in addition, by slots and by nodes
 abbrev pub nodes_with : (ℕ → Option NodeRef) → List Made → ℕ → Option NodeRef
 nodes_with nodes [] = nodes
@@ -52,6 +59,13 @@ last_made directory [] = directory
 last_made directory (made ∷ rest) =
     last_made (record { filesystem = directory.filesystem; slot = made.slot }) rest
 
+-- the inode in which the last copy was made
+abbrev pub parent_made : InodeRef → List Made → InodeRef
+parent_made directory [] = directory
+parent_made directory (made ∷ []) = directory
+parent_made directory (made ∷ next ∷ rest) =
+    parent_made (record { filesystem = directory.filesystem; slot = made.slot }) (next ∷ rest)
+
 -- These copies were made one in the other, each an inode more of the upper layer's filesystem alone, and they have births.
 pub record AreMade (directory : InodeRef) (copies : List PlannedCopy) (trees : Filesystems) (births : BirthsValue)
     (trees_after : Filesystems) (births_after : BirthsValue) (last : InodeRef) : Type 0 where
@@ -59,6 +73,8 @@ pub record AreMade (directory : InodeRef) (copies : List PlannedCopy) (trees : F
   pub all : map (λ (one : Made). one.copy) made ≡ copies
   pub inodes : ChangesInodes directory.filesystem.count (λ inodes.
       with_copies inodes (inode_of directory) (made_copies directory.filesystem.count made)) trees trees_after
+  pub free : AreFree (inodes_at trees directory.filesystem.count) (inode_of directory)
+      (made_copies directory.filesystem.count made)
   pub tree : (files_at trees_after directory.filesystem.count).tree
       ≡ (made_in_turn (files_at trees directory.filesystem.count) (inode_of directory)
       (made_copies directory.filesystem.count made)).tree

@@ -1,5 +1,5 @@
 -- Plans of copies, and what they need: the kernel's overlayfs document, "upper and lower" (copy_up).
-use Rattle.std.specs.Prelude.{All, List, None, Option, Some, [], false, is_some, length, map, nat_eq, reverse, true, ℕ, ⊤, ◌<◌, ◌∷◌, ◌≡◌, ◌≤◌}
+use Rattle.std.specs.Prelude.{All, List, None, Some, [], false, is_some, length, map, nat_eq, reverse, true, ℕ, ⊤, ◌<◌, ◌∷◌, ◌≡◌, ◌≤◌}
 use Rattle.vt_spec.specs.FileTree.{has_entry_to}
 use Rattle.vt_spec.specs.Rights.{is_directory}
 use Rattle.vt_spec.specs.Tree.{Tree, entries_in, kind_of}

@@ -1,4 +1,5 @@
 //! Laws of plans.
+ghost use Rattle.vt_copyup.specs.ForkLaws.{ForksMakeCopies};
 ghost use Rattle.vt_copyup.specs.Laws.{PlansMakeCopies, PromisesAreGivenBack};
 
 /// What a plan makes is the definitions' copy of the path with its missing parents, if the copies have the numbers
@@ -10,4 +11,13 @@ pub fn plans_make_copies()
 /// A plan that is given back leaves the filesystems as they were before it was made.
 pub fn promises_are_given_back()
     ensures { PromisesAreGivenBack }
+{}
+
+/// What a fork makes is the definitions' copy of the path of the first object, and then that of the second one's: the copies
+/// of the second begin where those of the first have ended.
+///
+/// The copies have the numbers that are handed out. What is to be copied is planned before anything is: the copies of the
+/// first object show the same.
+pub fn forks_make_copies()
+    ensures { ForksMakeCopies }
 {}

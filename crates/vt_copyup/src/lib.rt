@@ -3,13 +3,15 @@
 #![tactic(auto)]
 
 mod copied;
+mod forks;
 mod laws;
 mod planning;
 mod plans;
 mod unnamed;
 
 pub use copied::CopiedNode;
-pub use laws::{plans_make_copies, promises_are_given_back};
+pub use forks::{Fork, Forked};
+pub use laws::{forks_make_copies, plans_make_copies, promises_are_given_back};
 pub use planning::{give_back, plan, promise};
 pub use plans::{Plan, PlannedCopy};
 pub use unnamed::{UnnamedPlan, plan_unnamed};

@@ -54,7 +54,13 @@ pub fn plan<W: Way>(
 {
     let upper = upper_of(layers);
     let led = led_above(trees, upper.directory, path);
-    let pieces = pieces_from(alloc, trees, layers, overlay, path, with_bytes, led.names)?;
+    let source = Source {
+        trees,
+        layers,
+        overlay,
+        with_bytes,
+    };
+    let pieces = pieces_from(alloc, source, path, led.names)?;
     room_for_first(trees, led.inode, pieces.len(), room)?;
     Ok(Plan {
         directory: led.inode,
@@ -161,25 +167,32 @@ fn led_above<W: Way>(trees: &Filesystems, directory: InodeRef, path: &W) -> Led
     }
 }
 
+// The overlay from which is copied: its layers, the upper one first, and whether files are copied with their bytes.
+#[derive(Clone, Copy)]
+struct Source<'a> {
+    trees: &'a Filesystems,
+    layers: &'a [LayerRef],
+    overlay: FilesystemId,
+    with_bytes: bool,
+}
+
 // The copies of what is shown at each prefix of a path that is longer than this one, the longest first.
 fn pieces_from<W: Way>(
     alloc: Global,
-    trees: &Filesystems,
-    layers: &[LayerRef],
-    overlay: FilesystemId,
+    source: Source<'_>,
     path: &W,
-    with_bytes: bool,
     start: usize,
 ) -> Result<Vec<Piece>, AllocError>
-    requires layers { AreLayers trees.now layers.now }
-    requires few { length layers.now ≤ MOST_LAYERS }
-    requires shown { IsSome (shown (layers_of trees.now layers.now) (W.names path.now)) }
+    requires layers { AreLayers source.trees.now source.layers.now }
+    requires few { length source.layers.now ≤ MOST_LAYERS }
+    requires shown { IsSome (shown (layers_of source.trees.now source.layers.now) (W.names path.now)) }
     requires start { start ≤ length (W.names path.now) }
-    requires nowhere { (upper : Layer) → slice_get layers.now 0 ≡ Some upper → start < length (W.names path.now)
-        → at_path (opened trees.now upper.directory) (take (start + 1) (W.names path.now)) ≡ None }
+    requires nowhere { (upper : Layer) → slice_get source.layers.now 0 ≡ Some upper
+        → start < length (W.names path.now)
+        → at_path (opened source.trees.now upper.directory) (take (start + 1) (W.names path.now)) ≡ None }
     ensures copies { IfOk result (λ pieces.
-        AreCopiesFrom with_bytes trees.now layers.now overlay (take start (W.names path.now))
-        (reverse pieces.items)) }
+        AreCopiesFrom source.entry.with_bytes source.entry.trees.now source.entry.layers.now source.entry.overlay
+        (take start (W.names path.now)) (reverse pieces.items)) }
     ensures whole { IfOk result (λ pieces.
         take start (W.names path.now) ++ names_of (reverse pieces.items) ≡ W.names path.now) }
     ensures nested { IfOk result (λ pieces. AreNested (reverse pieces.items)) }
@@ -188,7 +201,7 @@ fn pieces_from<W: Way>(
     let mut index = path.len();
     while index > start {
         index -= 1;
-        let copy = copy_at(alloc, trees, layers, overlay, path, with_bytes, index)?;
+        let copy = copy_at(alloc, source, path, index)?;
         let room = room_of_copy(alloc, index > start)?;
         pieces.push(Piece { copy, room })?;
     }
@@ -228,25 +241,25 @@ impl<'a, W: Way> Way for Start<'a, W> {
 // The copy of what is shown at the prefix of a path with one name more.
 fn copy_at<W: Way>(
     alloc: Global,
-    trees: &Filesystems,
-    layers: &[LayerRef],
-    overlay: FilesystemId,
+    source: Source<'_>,
     path: &W,
-    with_bytes: bool,
     index: usize,
 ) -> Result<PlannedCopy, AllocError>
-    requires layers { AreLayers trees.now layers.now }
-    requires few { length layers.now ≤ MOST_LAYERS }
+    requires layers { AreLayers source.trees.now source.layers.now }
+    requires few { length source.layers.now ≤ MOST_LAYERS }
     requires name { index < length (W.names path.now) }
-    requires shown { IsSome (shown (layers_of trees.now layers.now) (take (index + 1) (W.names path.now))) }
-    requires nowhere { (upper : Layer) → slice_get layers.now 0 ≡ Some upper
-        → at_path (opened trees.now upper.directory) (take (index + 1) (W.names path.now)) ≡ None }
-    ensures copy { IfOk result (IsCopyIn with_bytes trees.now layers.now overlay (take index (W.names path.now))) }
+    requires shown { IsSome (shown (layers_of source.trees.now source.layers.now)
+        (take (index + 1) (W.names path.now))) }
+    requires nowhere { (upper : Layer) → slice_get source.layers.now 0 ≡ Some upper
+        → at_path (opened source.trees.now upper.directory) (take (index + 1) (W.names path.now)) ≡ None }
+    ensures copy { IfOk result (IsCopyIn source.entry.with_bytes source.entry.trees.now source.entry.layers.now
+        source.entry.overlay (take index (W.names path.now))) }
     ensures name { IfOk result (λ copy. slice_get (W.names path.now) index ≡ Some copy.name.items) }
 {
+    let trees = source.trees;
     let name = path.name(index);
     let front = Start { path, len: index };
-    let Some(found) = first_entry(trees, layers, &front, name) else {
+    let Some(found) = first_entry(trees, source.layers, &front, name) else {
         unreachable!();
     };
     let Some(node) = trees.node(found.object.node_ref()) else {
@@ -254,8 +267,8 @@ fn copy_at<W: Way>(
     };
     Ok(PlannedCopy {
         name: copied_bytes(alloc, name)?,
-        node: CopiedNode::of(alloc, node, with_bytes)?,
-        born: born_below(trees, overlay, found, name, node),
+        node: CopiedNode::of(alloc, node, source.with_bytes)?,
+        born: born_below(trees, source.overlay, found, name, node),
     })
 }
 

@@ -8,7 +8,7 @@ ghost use Rattle.vt_location.specs.declared.locations.NodeRef.{NodeRef as Node};
 ghost use Rattle.vt_fs.specs.FilesystemsValue.{ChangesInodes, files_at, inodes_promised};
 ghost use Rattle.vt_laws_worlds.specs.Merging.UpperChanges.{copy_node};
 ghost use Rattle.vt_births.specs.Births.{copy_of, is_born_below, node_of};
-ghost use Rattle.vt_copyup.specs.Made.{AreMade};
+ghost use Rattle.vt_copyup.specs.Made.{AreMade, parent_made};
 ghost use Rattle.vt_copyup.specs.Plans.{CopiesAreThere, EntriesAreThere, Fits, IsReady, copies_of, in_turn, many};
 
 use crate::copied::CopiedNode;
@@ -42,6 +42,13 @@ pub struct Plan {
     pub(crate) directory: InodeRef,
     // The last copy first.
     pub(crate) pieces: Vec<Piece>,
+}
+
+// The last copy, and the inode in which it was made. Where nothing is copied, the directory is both.
+#[derive(Clone, Copy, Debug)]
+pub(crate) struct Grown {
+    pub(crate) parent: InodeRef,
+    pub(crate) object: InodeRef,
 }
 
 impl Plan {
@@ -93,19 +100,46 @@ impl Plan {
         ensures there { CopiesAreThere trees.new result.filesystem.count births.new }
         ensures room { self.pieces.items ≡ [] → room.new ≡ room.old }
     {
+        self.grow(alloc, trees, births, room).object
+    }
+
+    // Makes them so, and returns the inode in which the last one was made, too. It does not allocate.
+    pub(crate) fn grow(
+        self,
+        alloc: Global,
+        trees: &mut Filesystems,
+        births: &mut Births,
+        room: &mut EntryRoom,
+    ) -> Grown
+        requires { IsReady self trees.old births.old room.old }
+        ensures made { (are : AreMade self.directory (copies_of (in_turn self)) trees.old births.old trees.new
+            births.new result.object) × (result.parent ≡ parent_made self.directory are.made) }
+        ensures filesystem { result.object.filesystem ≡ self.directory.filesystem }
+        ensures entries { EntriesAreThere (files_at trees.new result.object.filesystem.count).tree }
+        ensures there { CopiesAreThere trees.new result.object.filesystem.count births.new }
+        ensures room { self.pieces.items ≡ [] → room.new ≡ room.old }
+    {
         let Plan {
             directory,
             mut pieces,
         } = self;
+        let mut parent = directory;
         let Some(first) = pieces.pop() else {
-            return directory;
+            return Grown {
+                parent,
+                object: directory,
+            };
         };
         let mut here = first.copy.make(alloc, trees, births, directory, room);
         while let Some(piece) = pieces.pop() {
             let Piece { copy, mut room } = piece;
+            parent = here;
             here = copy.make(alloc, trees, births, here, &mut room);
         }
-        here
+        Grown {
+            parent,
+            object: here,
+        }
     }
 }
 

@@ -21,6 +21,7 @@ struct Front {
 /// An order of the lines, as far as it was tried.
 #[derive(Drop)]
 pub struct Trial {
+    alloc: Global,
     // Whether lines of a task are answered before it is born.
     unborn: bool,
     fronts: Vec<Front>,
@@ -77,6 +78,7 @@ impl Trial {
     /// Before the first order.
     pub fn new(alloc: Global, queues: &Queues<'_>, unborn: bool) -> Result<Self, AllocError> {
         let mut trial = Trial {
+            alloc,
             unborn,
             fronts: Vec::new(alloc),
             order: Vec::new(alloc),
@@ -199,7 +201,6 @@ impl Trial {
     // Answers a line, keeps its answer, and returns whether this order is tried further.
     fn answer<C: Calls>(
         &mut self,
-        alloc: Global,
         queues: &Queues<'_>,
         world: &mut C,
         place: usize,
@@ -208,7 +209,7 @@ impl Trial {
         let Some(line) = queues.lines.get(place) else {
             return Ok(false);
         };
-        let told = answered(alloc, queues, world, line);
+        let told = answered(self.alloc, queues, world, line);
         if told.failed {
             return Err(AllocError);
         }
@@ -224,7 +225,6 @@ impl Trial {
     /// order is tried in its place.
     pub fn run<C: Calls>(
         &mut self,
-        alloc: Global,
         queues: &Queues<'_>,
         world: &mut C,
         answers: &mut IndexSet<Vec<u8>>,
@@ -239,7 +239,7 @@ impl Trial {
             if kept.is_none() {
                 self.order.push(place)?;
             }
-            if !self.answer(alloc, queues, world, place, answers)? {
+            if !self.answer(queues, world, place, answers)? {
                 return Ok(false);
             }
         }

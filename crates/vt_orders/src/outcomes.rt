@@ -72,7 +72,7 @@ impl Outcomes {
         let Ok(mut world) = C::opening(self.alloc) else {
             return Err(AllocError);
         };
-        let came = trial.run(self.alloc, queues, &mut world, &mut self.answers);
+        let came = trial.run(queues, &mut world, &mut self.answers);
         world.end();
         if came? {
             self.add(trial)?;

@@ -8,7 +8,7 @@ use Rattle.vt_script.specs.declared.session.Session.{Session}
 -- the state of a session, of whose world the definitions see this
 abbrev pub state_of : {C : Type 0} → (C → World ℕ) → Session C → State
 state_of seen session = record {
-  version = version_of session.version;
+  version = version_of session.parser.version;
   world = seen session.world;
   answered = session.answered;
   kept = session.line;

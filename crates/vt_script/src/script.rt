@@ -26,20 +26,21 @@ fn answer_all<C: Calls, R: Source, W: Sink>(
 ) -> Result<(), RunFault>
     requires source_countable { R.failures source.old + 1 < 2 ^ 64 }
     requires sink_countable { W.failures sink.old + 1 < 2 ^ 64 }
-    requires opening { IsOpening (version_of session.old.version) (moment (state_of C.world session.old) []) }
+    requires opening { IsOpening (version_of session.old.parser.version) (moment (state_of C.world session.old) []) }
     requires reading { IsReading (state_of C.world session.old) [] }
     requires begun { lines_begun (state_of C.world session.old) ≡ 0 }
 
     ensures ok { OnOk result (R.tells source.old → W.tells sink.old
-        → AnswersScriptIn W.Sink (version_of session.old.version) (R.rest source.old) sink.old sink.new) }
+        → AnswersScriptIn W.Sink (version_of session.old.parser.version) (R.rest source.old) sink.old sink.new) }
     ensures all_read { OnOk result (R.tells source.old → R.rest source.new ≡ []) }
     ensures after_read { IsErrOf result RunFault.Read → R.tells source.old → W.tells sink.old
-        → AnswersWholeLinesIn W.Sink (version_of session.old.version) (R.rest source.old) (R.rest source.new) sink.old sink.new }
-    ensures after_write { IsErrOf result RunFault.Write → R.tells source.old → W.tells sink.old
-        → BeginsToAnswerIn W.Sink (version_of session.old.version) (R.rest source.old) sink.old sink.new }
-    ensures at_once { IsErrOf result RunFault.Write → R.tells source.old → W.tells sink.old
-        → EndsAtOnceIn W.Sink (version_of session.old.version) (R.rest source.old) (R.given source.new) (R.rest source.new)
+        → AnswersWholeLinesIn W.Sink (version_of session.old.parser.version) (R.rest source.old) (R.rest source.new)
         sink.old sink.new }
+    ensures after_write { IsErrOf result RunFault.Write → R.tells source.old → W.tells sink.old
+        → BeginsToAnswerIn W.Sink (version_of session.old.parser.version) (R.rest source.old) sink.old sink.new }
+    ensures at_once { IsErrOf result RunFault.Write → R.tells source.old → W.tells sink.old
+        → EndsAtOnceIn W.Sink (version_of session.old.parser.version) (R.rest source.old) (R.given source.new)
+        (R.rest source.new) sink.old sink.new }
     ensures fault { IfErr result (λ fault. (fault ≡ RunFault.Read) ⊎ (fault ≡ RunFault.Write)) }
     ensures read_failed { IsErrOf result RunFault.Read → R.failures source.new ≡ R.failures source.old + 1 }
     ensures no_read_failed { IsErrOf result RunFault.Read ⊎ (R.failures source.new ≡ R.failures source.old) }

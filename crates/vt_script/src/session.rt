@@ -18,18 +18,23 @@ use vt_line::print::write_reply;
 use vt_line::version::Version;
 use vt_spec::errors::Rule;
 
-/// The version of the script's language, the world, how many lines are answered, and the line that is being read.
+/// What lines are parsed with: the version of their language, and the texts of the last line that had escapes.
+#[derive(Drop)]
+pub struct Parser {
+    pub version: Version,
+    pub alloc: Global,
+    pub texts: Option<Unescaped>,
+}
+
+/// The world, how many lines are answered, and the line that is being read.
 #[derive(Drop)]
 pub struct Session<C> {
-    pub version: Version,
+    pub parser: Parser,
     pub world: C,
     /// How many lines have ended, also those that have no answer.
     pub answered: u64,
     /// What was read of the next line.
     pub line: LineBuffer,
-    /// The texts of the last line that had escapes.
-    pub texts: Option<Unescaped>,
-    pub alloc: Global,
 }
 
 // The bytes before the first newline, and those after it.
@@ -44,22 +49,22 @@ fn split_line(bytes: &[u8]) -> Option<(&[u8], &[u8])>
 
 // Answers the line of this number.
 fn answer<C: Calls, W: Sink>(
-    version: Version,
-    alloc: Global,
+    parser: &mut Parser,
     world: &mut C,
     number: u64,
     line: &[u8],
-    texts: &mut Option<Unescaped>,
     sink: &mut W,
 ) -> Result<(), RunFault>
     requires { W.failures sink.old + 1 < 2 ^ 64 }
+    ensures version { parser.new.version ≡ parser.old.version }
     ensures replies { HasNumbers (C.world world.old)
-        → Replies W.Sink (version_of version) (C.world world.old) line.now number result (C.world world.new) sink.old sink.new }
+        → Replies W.Sink (version_of parser.old.version) (C.world world.old) line.now number result
+        (C.world world.new) sink.old sink.new }
     ensures kept { OnOk result (W.failures sink.new ≡ W.failures sink.old) }
     ensures counted { OnErr result (W.failures sink.new ≡ W.failures sink.old + 1) }
     ensures fault { IfErr result (λ fault. fault ≡ RunFault.Write) }
 {
-    match Line::parse_as(version, alloc, line, texts) {
+    match Line::parse_as(parser.version, parser.alloc, line, &mut parser.texts) {
         Ok(Line::Silent) => Ok(()),
         Ok(Line::Call(task, call)) => {
             let answer = world.call(&task, call);
@@ -75,17 +80,17 @@ fn answer<C: Calls, W: Sink>(
 
 // Answers the line of this number, which was read in pieces.
 fn answer_kept<C: Calls, W: Sink>(
-    version: Version,
-    alloc: Global,
+    parser: &mut Parser,
     world: &mut C,
     number: u64,
     line: &LineBuffer,
-    texts: &mut Option<Unescaped>,
     sink: &mut W,
 ) -> Result<(), RunFault>
     requires { W.failures sink.old + 1 < 2 ^ 64 }
+    ensures version { parser.new.version ≡ parser.old.version }
     ensures replies { (text : List ℕ) → Holds text line.now → HasNumbers (C.world world.old)
-        → Replies W.Sink (version_of version) (C.world world.old) text number result (C.world world.new) sink.old sink.new }
+        → Replies W.Sink (version_of parser.old.version) (C.world world.old) text number result
+        (C.world world.new) sink.old sink.new }
     ensures kept { OnOk result (W.failures sink.new ≡ W.failures sink.old) }
     ensures counted { OnErr result (W.failures sink.new ≡ W.failures sink.old + 1) }
     ensures fault { IfErr result (λ fault. fault ≡ RunFault.Write) }
@@ -93,13 +98,13 @@ fn answer_kept<C: Calls, W: Sink>(
     if line.is_overlong() {
         return write_reply(sink, number, &Err(Rule::S1.denial()));
     }
-    answer(version, alloc, world, number, line.bytes(), texts, sink)
+    answer(parser, world, number, line.bytes(), sink)
 }
 
 impl<C: Calls> Session<C> {
     /// The opening world, before the first byte. `Memory`: the world or the line's buffer was refused.
     pub fn new(version: Version, alloc: Global) -> Result<Self, RunFault>
-        ensures version { IfOk result (λ session. session.version ≡ version) }
+        ensures version { IfOk result (λ session. session.parser.version ≡ version) }
         ensures opening { IfOk result (λ session. IsOpening (version_of version) (moment (state_of C.world session) [])) }
         ensures reading { IfOk result (λ session. IsReading (state_of C.world session) []) }
         ensures begun { IfOk result (λ session. lines_begun (state_of C.world session) ≡ 0) }
@@ -111,13 +116,16 @@ impl<C: Calls> Session<C> {
         let Ok(world) = C::opening(alloc) else {
             return Err(RunFault::Memory);
         };
-        Ok(Session {
+        let parser = Parser {
             version,
+            alloc,
+            texts: None,
+        };
+        Ok(Session {
+            parser,
             world,
             answered: 0,
             line,
-            texts: None,
-            alloc,
         })
     }
 
@@ -142,15 +150,7 @@ impl<C: Calls> Session<C> {
         ensures fault { IfErr result (λ fault. fault ≡ RunFault.Write) }
     {
         let number = self.answered + 1;
-        answer_kept(
-            self.version,
-            self.alloc,
-            &mut self.world,
-            number,
-            &self.line,
-            &mut self.texts,
-            sink,
-        )?;
+        answer_kept(&mut self.parser, &mut self.world, number, &self.line, sink)?;
         self.answered = number;
         self.line.clear();
         Ok(())
@@ -172,15 +172,7 @@ impl<C: Calls> Session<C> {
         ensures fault { IfErr result (λ fault. fault ≡ RunFault.Write) }
     {
         let number = self.answered + 1;
-        answer(
-            self.version,
-            self.alloc,
-            &mut self.world,
-            number,
-            line,
-            &mut self.texts,
-            sink,
-        )?;
+        answer(&mut self.parser, &mut self.world, number, line, sink)?;
         self.answered = number;
         Ok(())
     }
@@ -241,12 +233,10 @@ impl<C: Calls> Session<C> {
             return Ok(());
         }
         answer_kept(
-            self.version,
-            self.alloc,
+            &mut self.parser,
             &mut self.world,
             self.answered + 1,
             &self.line,
-            &mut self.texts,
             sink,
         )
     }

@@ -6,6 +6,7 @@ ghost use Rattle.vt_tasks.specs.TaskValue.{task_of};
 ghost use Rattle.vt_steps.specs.declared.here.Halt.TheVariants.{Refused};
 ghost use Rattle.vt_steps.specs.StepsValue.{here_of, met_of, steps_of};
 
+use crate::over::LookOver;
 use std::alloc::{AllocError, Global};
 use vt_location::{FilesystemId, Location};
 use vt_looks::Place;
@@ -18,6 +19,14 @@ pub type Steps = Vec<Vec<FilesystemId>>;
 
 // The most symlinks that are followed for one path: MAXSYMLINKS, path_resolution(7).
 pub(crate) const MOST_LINKS: usize = 40;
+
+// Whose paths are walked, and in which world.
+#[derive(Drop)]
+pub(crate) struct Walker<'a, L: LookOver> {
+    pub(crate) alloc: Global,
+    pub(crate) world: &'a L,
+    pub(crate) who: &'a Task,
+}
 
 // Where a walk stands, how many symlinks it may still follow, and its words so far.
 #[derive(Debug, Drop)]

@@ -6,7 +6,7 @@ ghost use Rattle.vt_looks.specs.Places.{last_of};
 ghost use Rattle.vt_tasks.specs.TaskValue.{task_of};
 ghost use Rattle.vt_steps.specs.StepsValue.{EndsAtPlace, here_of, place_of};
 
-use crate::here::{Halt, Here, Named, refused, with_met, with_word};
+use crate::here::{Halt, Here, Named, Walker, refused, with_met, with_word};
 use crate::meeting::{met_over, name_led, symlink_text};
 use crate::over::LookOver;
 use crate::words::{link_begun, prefix_walked};
@@ -14,20 +14,17 @@ use std::alloc::{AllocError, Global};
 use vt_location::Location;
 use vt_looks::{LastWord, Look, Place};
 use vt_spec::errors::Rule;
-use vt_tasks::Task;
 use vt_text::link;
 
 // What a last word names in a directory, with no symlink followed.
 pub(crate) fn placed<'a, L: LookOver>(
-    alloc: Global,
-    world: &L,
-    who: &Task,
+    walker: &Walker<'_, L>,
     here: Here,
     last: LastWord<'a>,
     slash: bool,
 ) -> Result<Named<'a>, Halt>
-    ensures { EndsAtPlace (placed nat_eq (L.looks world.now) (task_of who.now) (here_of here)
-        (last_of last.entry) slash) result }
+    ensures { EndsAtPlace (placed nat_eq (L.looks walker.now.world.now) (task_of walker.now.who.now)
+        (here_of here) (last_of last.entry) slash) result }
 {
     let parent = here.location;
     if last.is_no_word() {
@@ -42,7 +39,7 @@ pub(crate) fn placed<'a, L: LookOver>(
             steps: here.steps,
         });
     }
-    let step = name_led(alloc, world, who, parent, last)?;
+    let step = name_led(walker.alloc, walker.world, walker.who, parent, last)?;
     let steps = with_word(here.steps, step.met)?;
     match step.object {
         Ok(object) => {
@@ -100,33 +97,31 @@ fn asks_for_directory(slash: bool, text: &[u8]) -> bool
 // The place of a file that is opened or made, on the path or the text of a final symlink, with the symlinks that may
 // stand in one another's texts.
 pub(crate) fn file_walked<'a, L: LookOver>(
-    alloc: Global,
-    world: &'a L,
-    who: &Task,
+    walker: &Walker<'a, L>,
     start: Here,
     text: &'a [u8],
     slash: bool,
     depth: usize,
 ) -> Result<Named<'a>, Halt>
-    ensures { EndsAtPlace (file_walked nat_eq depth (L.looks world.now) (task_of who.now) (here_of start)
-        text.now slash) result }
+    ensures { EndsAtPlace (file_walked nat_eq depth (L.looks walker.now.world.now)
+        (task_of walker.now.who.now) (here_of start) text.now slash) result }
 {
     if depth == 0 {
         return refused(Rule::W7.denial(), start.steps);
     }
-    let prefix = prefix_walked(alloc, world, who, start, text)?;
+    let prefix = prefix_walked(walker, start, text)?;
     let directory = prefix.here.location;
     let left = prefix.here.left;
     let slash = asks_for_directory(slash, text);
-    let named = placed(alloc, world, who, prefix.here, prefix.last, slash)?;
-    let Some((link, inner)) = symlink_there(world, &named) else {
-        return Ok(entered(alloc, world, named)?);
+    let named = placed(walker, prefix.here, prefix.last, slash)?;
+    let Some((link, inner)) = symlink_there(walker.world, &named) else {
+        return Ok(entered(walker.alloc, walker.world, named)?);
     };
     let symlink = Here {
         location: link,
         left,
         steps: named.steps,
     };
-    let begun = link_begun(alloc, world, who, directory, symlink, inner)?;
-    file_walked(alloc, world, who, begun, inner, slash, depth - 1)
+    let begun = link_begun(walker, directory, symlink, inner)?;
+    file_walked(walker, begun, inner, slash, depth - 1)
 }

@@ -10,14 +10,12 @@ ghost use Rattle.vt_spec.specs.Machine.Looks.{mount_at};
 ghost use Rattle.vt_steps.specs.StepsValue.{Ends, EndsBy, here_of};
 ghost use Rattle.vt_steps.specs.declared.words.Prefix.{Prefix};
 
-use crate::here::{Halt, Here, MOST_LINKS, refused, start_of, with_met, with_word};
+use crate::here::{Halt, Here, MOST_LINKS, Walker, refused, start_of, with_met, with_word};
 use crate::meeting::{filesystems_of, is_directory_at, symlink_text, word_led};
 use crate::over::LookOver;
-use std::alloc::Global;
 use vt_location::Location;
 use vt_looks::{LastWord, Look};
 use vt_spec::errors::Rule;
-use vt_tasks::Task;
 use vt_text::link;
 use vt_text::path::Words;
 
@@ -26,16 +24,14 @@ pub(crate) const MOST_TEXTS: usize = MOST_LINKS + 1;
 
 // One word walked; a symlink is not followed.
 fn word_walked<L: LookOver>(
-    alloc: Global,
-    world: &L,
-    who: &Task,
+    walker: &Walker<'_, L>,
     here: Here,
     word: LastWord<'_>,
 ) -> Result<Here, Halt>
-    ensures { Ends (word_walked nat_eq (L.looks world.now) (task_of who.now) (here_of here) (last_of word.entry))
-        result }
+    ensures { Ends (word_walked nat_eq (L.looks walker.now.world.now) (task_of walker.now.who.now)
+        (here_of here) (last_of word.entry)) result }
 {
-    let step = word_led(alloc, world, who, here.location, word)?;
+    let step = word_led(walker.alloc, walker.world, walker.who, here.location, word)?;
     let steps = with_word(here.steps, step.met)?;
     match step.reached {
         Ok(location) => Ok(Here {
@@ -60,19 +56,17 @@ fn is_nosymfollow<L: Look>(world: &L, link: Location) -> bool
 // Where the walk of a symlink's text begins, if it may be walked: W9 before W7 before W2. An absolute one meets the
 // filesystem of the task's root.
 pub(crate) fn link_begun<L: LookOver>(
-    alloc: Global,
-    world: &L,
-    who: &Task,
+    walker: &Walker<'_, L>,
     directory: Location,
     symlink: Here,
     text: &[u8],
 ) -> Result<Here, Halt>
     ensures { Ends (walk_unless (here_of symlink).steps
-        (follow_rules nat_eq (L.looks world.now) (here_of symlink) text.now)
-        (symlink_start nat_eq (L.looks world.now) (task_of who.now) (location_of directory) (here_of symlink)
-        text.now)) result }
+        (follow_rules nat_eq (L.looks walker.now.world.now) (here_of symlink) text.now)
+        (symlink_start nat_eq (L.looks walker.now.world.now) (task_of walker.now.who.now)
+        (location_of directory) (here_of symlink) text.now)) result }
 {
-    if is_nosymfollow(world, symlink.location) {
+    if is_nosymfollow(walker.world, symlink.location) {
         return refused(Rule::W9.denial(), symlink.steps);
     }
     if symlink.left == 0 {
@@ -82,10 +76,10 @@ pub(crate) fn link_begun<L: LookOver>(
         return refused(Rule::W2.denial(), symlink.steps);
     }
     let left = symlink.left - 1;
-    let location = start_of(who, directory, text);
+    let location = start_of(walker.who, directory, text);
     let mut steps = symlink.steps;
     if link::is_absolute(text) {
-        let met = filesystems_of(alloc, world, &[who.root])?;
+        let met = filesystems_of(walker.alloc, walker.world, &[walker.who.root])?;
         steps = with_met(steps, met)?;
     }
     Ok(Here {
@@ -108,29 +102,27 @@ fn asked_by_slash<L: Look>(world: &L, text: &[u8], here: Here) -> Result<Here, H
 
 // Where words lead, every symlink followed, with symlinks in one another's texts no deeper than this.
 pub(crate) fn words_walked<L: LookOver>(
-    alloc: Global,
-    world: &L,
-    who: &Task,
+    walker: &Walker<'_, L>,
     start: Here,
     mut words: Words<'_>,
     depth: usize,
 ) -> Result<Here, Halt>
-    ensures { Ends (words_walked nat_eq (L.looks world.now) (task_of who.now)
-        (symlink_walked nat_eq depth (L.looks world.now) (task_of who.now)) (here_of start)
-        (reverse words.entry)) result }
+    ensures { Ends (words_walked nat_eq (L.looks walker.now.world.now) (task_of walker.now.who.now)
+        (symlink_walked nat_eq depth (L.looks walker.now.world.now) (task_of walker.now.who.now))
+        (here_of start) (reverse words.entry)) result }
 {
     let mut here = start;
     while let Some(word) = words.next() {
         let directory = here.location;
-        let next = word_walked(alloc, world, who, here, LastWord::of(word))?;
-        here = match symlink_text(world, next.location) {
+        let next = word_walked(walker, here, LastWord::of(word))?;
+        here = match symlink_text(walker.world, next.location) {
             Some(text) => {
                 if depth == 0 {
                     return refused(Rule::W7.denial(), next.steps);
                 }
-                let begun = link_begun(alloc, world, who, directory, next, text)?;
-                let ended = words_walked(alloc, world, who, begun, link::words(text), depth - 1)?;
-                asked_by_slash(world, text, ended)?
+                let begun = link_begun(walker, directory, next, text)?;
+                let ended = words_walked(walker, begun, link::words(text), depth - 1)?;
+                asked_by_slash(walker.world, text, ended)?
             }
             None => next,
         };
@@ -158,35 +150,32 @@ pub(crate) struct Prefix<'a> {
 
 // All words of a text walked but the last, which is told.
 pub(crate) fn prefix_walked<'a, L: LookOver>(
-    alloc: Global,
-    world: &L,
-    who: &Task,
+    walker: &Walker<'_, L>,
     start: Here,
     text: &'a [u8],
 ) -> Result<Prefix<'a>, Halt>
     ensures walk { EndsBy (λ (prefix : Prefix). here_of prefix.here)
-        (prefix_walked nat_eq (L.looks world.now) (task_of who.now)
-        (followed nat_eq (L.looks world.now) (task_of who.now)) (here_of start) (reverse (words text.now))) result }
+        (prefix_walked nat_eq (L.looks walker.now.world.now) (task_of walker.now.who.now)
+        (followed nat_eq (L.looks walker.now.world.now) (task_of walker.now.who.now))
+        (here_of start) (reverse (words text.now))) result }
     ensures last { IfOk result (λ prefix. last_of prefix.last ≡ final_word (reverse (words text.now))) }
 {
     let (front, last) = front_and_last(text);
-    let here = words_walked(alloc, world, who, start, front, MOST_TEXTS)?;
+    let here = words_walked(walker, start, front, MOST_TEXTS)?;
     Ok(Prefix { here, last })
 }
 
 // The last word of a path walked; a final symlink is not followed.
 pub(crate) fn last_walked<L: LookOver>(
-    alloc: Global,
-    world: &L,
-    who: &Task,
+    walker: &Walker<'_, L>,
     here: Here,
     last: LastWord<'_>,
 ) -> Result<Here, Halt>
-    ensures { Ends (last_walked nat_eq (L.looks world.now) (task_of who.now) (here_of here) (last_of last.entry))
-        result }
+    ensures { Ends (last_walked nat_eq (L.looks walker.now.world.now) (task_of walker.now.who.now)
+        (here_of here) (last_of last.entry)) result }
 {
     match last {
         LastWord::NoWord => Ok(here),
-        _ => word_walked(alloc, world, who, here, last),
+        _ => word_walked(walker, here, last),
     }
 }

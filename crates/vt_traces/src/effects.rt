@@ -5,7 +5,7 @@ use crate::process::{Opened, Process};
 use crate::rows::{Row, Verb};
 use crate::saying::Saying;
 use crate::texts::has_flag;
-use crate::trace::Trace;
+use crate::trace::{Caller, Trace};
 use std::alloc::{AllocError, Global};
 use vt_from::words::owned;
 
@@ -245,12 +245,12 @@ impl Trace {
     /// Follows what a call does to the process, and what it tells of what was there.
     pub fn follow(
         &mut self,
-        number: u64,
-        place: usize,
+        caller: Caller,
         call: &Call<'_>,
         row: Row,
         is_said: bool,
     ) -> Result<(), AllocError> {
+        let place = caller.place;
         let paths = self.wholes(place, call, row)?;
         if !call.is_done() {
             return self.note_refused(call, row, &paths);
@@ -258,7 +258,7 @@ impl Trace {
         self.note_needs(call, row, &paths)?;
         match row.verb {
             Verb::Open | Verb::Creat => self.note_opened(place, call, row, is_said),
-            Verb::Exec => self.close_by_exec(number, place, call.text),
+            Verb::Exec => self.close_by_exec(caller, call.text),
             _ if is_said => self.note_place(place, row, paths.first.as_str()),
             _ => Ok(()),
         }
@@ -274,46 +274,34 @@ impl Trace {
     }
 
     // Appends that a descriptor is closed, if the task has it open.
-    fn close_number(
-        &mut self,
-        line: u64,
-        place: usize,
-        number: u64,
-        text: &str,
-    ) -> Result<(), AllocError> {
-        let Some(open) = self.taken(place, number) else {
+    fn close_number(&mut self, caller: Caller, number: u64, text: &str) -> Result<(), AllocError> {
+        let Some(open) = self.taken(caller.place, number) else {
             return Ok(());
         };
-        let task = self.task_at(place)?;
+        let task = self.task_at(caller.place)?;
         let words = format!(in self.alloc; "close {open}")?;
-        self.write(line, text, task.as_str(), words.as_str())
+        self.write(caller.line, text, task.as_str(), words.as_str())
     }
 
     /// Appends that a descriptor is closed, if a call returns it again.
     pub fn close_before(
         &mut self,
-        line: u64,
-        place: usize,
+        caller: Caller,
         call: &Call<'_>,
         row: Row,
     ) -> Result<(), AllocError> {
         match (row.verb, call.number()) {
             (Verb::Open | Verb::Creat, Some(number)) => {
-                self.close_number(
-                    line,
-                    place,
-                    number,
-                    "closed before, since it is returned again",
-                )
+                self.close_number(caller, number, "closed before, since it is returned again")
             }
             _ => Ok(()),
         }
     }
 
     /// Appends a call of close(2).
-    pub fn close(&mut self, line: u64, place: usize, call: &Call<'_>) -> Result<(), AllocError> {
+    pub fn close(&mut self, caller: Caller, call: &Call<'_>) -> Result<(), AllocError> {
         match number_in(call.argument(0)) {
-            Some(number) if call.is_done() => self.close_number(line, place, number, call.text),
+            Some(number) if call.is_done() => self.close_number(caller, number, call.text),
             _ => Ok(()),
         }
     }
@@ -329,12 +317,12 @@ impl Trace {
     }
 
     // Appends that descriptors are closed, as exec does.
-    fn close_by_exec(&mut self, line: u64, place: usize, text: &str) -> Result<(), AllocError> {
+    fn close_by_exec(&mut self, caller: Caller, text: &str) -> Result<(), AllocError> {
         for _ in 0..u64::MAX {
-            let Some(number) = self.closed_by_exec(place) else {
+            let Some(number) = self.closed_by_exec(caller.place) else {
                 break;
             };
-            self.close_number(line, place, number, text)?;
+            self.close_number(caller, number, text)?;
         }
         Ok(())
     }

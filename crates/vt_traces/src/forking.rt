@@ -2,7 +2,7 @@
 use crate::call::{Call, number_in};
 use crate::process::Process;
 use crate::texts::has_flag;
-use crate::trace::Trace;
+use crate::trace::{Caller, Trace};
 use std::alloc::AllocError;
 use vt_from::words::owned;
 
@@ -124,12 +124,7 @@ impl Trace {
     }
 
     /// Appends a call that makes a process, unless that was seen before the call was over.
-    pub fn fork_called(
-        &mut self,
-        number: u64,
-        place: usize,
-        call: &Call<'_>,
-    ) -> Result<(), AllocError> {
+    pub fn fork_called(&mut self, caller: Caller, call: &Call<'_>) -> Result<(), AllocError> {
         let Some(child) = call.number() else {
             self.body.skip("a process that is not made", call.text);
             return Ok(());
@@ -137,7 +132,7 @@ impl Trace {
         if self.places.contains_key(&child) {
             return Ok(());
         }
-        self.fork(number, place, call.text, child)?;
+        self.fork(caller.line, caller.place, call.text, child)?;
         Ok(())
     }
 
@@ -188,17 +183,12 @@ impl Trace {
     }
 
     /// Appends a call of setns(2).
-    pub fn set_namespace(
-        &mut self,
-        number: u64,
-        place: usize,
-        call: &Call<'_>,
-    ) -> Result<(), AllocError> {
-        let words = self.entering(place, call)?;
-        let task = self.task_at(place)?;
+    pub fn set_namespace(&mut self, caller: Caller, call: &Call<'_>) -> Result<(), AllocError> {
+        let words = self.entering(caller.place, call)?;
+        let task = self.task_at(caller.place)?;
         match words {
             Some(words) if call.is_done() && !task.is_empty() => {
-                self.write(number, call.text, task.as_str(), words.as_str())
+                self.write(caller.line, call.text, task.as_str(), words.as_str())
             }
             _ => {
                 self.body

@@ -32,6 +32,13 @@ pub struct Trace {
     failed: bool,
 }
 
+/// Who calls: the place of its process, and the line of the trace.
+#[derive(Clone, Copy)]
+pub struct Caller {
+    pub place: usize,
+    pub line: u64,
+}
+
 // A call as a script has it: its words, and the answer that is wanted.
 #[derive(Drop)]
 struct Said {
@@ -112,7 +119,13 @@ impl Trace {
     fn take_text(&mut self, number: u64, process: u64, text: &str) -> Result<(), AllocError> {
         let place = self.place_of(number, process)?;
         match call_of(self.alloc, text)? {
-            Some(call) => self.take_call(number, place, &call),
+            Some(call) => {
+                let caller = Caller {
+                    place,
+                    line: number,
+                };
+                self.take_call(caller, &call)
+            }
             None => {
                 self.body.count("a call of another form");
                 Ok(())
@@ -121,7 +134,7 @@ impl Trace {
     }
 
     // Goes on by a call.
-    fn take_call(&mut self, number: u64, place: usize, call: &Call<'_>) -> Result<(), AllocError> {
+    fn take_call(&mut self, caller: Caller, call: &Call<'_>) -> Result<(), AllocError> {
         let Some(row) = row_named(call.name) else {
             self.body.skip("another call", call.text);
             return Ok(());
@@ -132,11 +145,11 @@ impl Trace {
                 self.body.count(row.name);
                 Ok(())
             }
-            Verb::Fork => self.fork_called(number, place, call),
-            Verb::Close => self.close(number, place, call),
-            Verb::Dup => self.copy(place, call),
-            Verb::Setns => self.set_namespace(number, place, call),
-            _ => self.say(number, place, call, row),
+            Verb::Fork => self.fork_called(caller, call),
+            Verb::Close => self.close(caller, call),
+            Verb::Dup => self.copy(caller.place, call),
+            Verb::Setns => self.set_namespace(caller, call),
+            _ => self.say(caller, call, row),
         }
     }
 
@@ -176,21 +189,15 @@ impl Trace {
     }
 
     // Appends a call, or why it is not said, and follows what it does.
-    fn say(
-        &mut self,
-        number: u64,
-        place: usize,
-        call: &Call<'_>,
-        row: Row,
-    ) -> Result<(), AllocError> {
-        let said = self.said(place, call, row);
-        self.close_before(number, place, call, row)?;
+    fn say(&mut self, caller: Caller, call: &Call<'_>, row: Row) -> Result<(), AllocError> {
+        let said = self.said(caller.place, call, row);
+        self.close_before(caller, call, row)?;
         let is_said = match said {
             Ok(said) => {
                 let (words, wanted) = (said.words.as_str(), said.wanted.as_str());
                 let line = format!(in self.alloc; "{words}{wanted}")?;
-                let task = self.task_at(place)?;
-                self.write(number, call.text, task.as_str(), line.as_str())?;
+                let task = self.task_at(caller.place)?;
+                self.write(caller.line, call.text, task.as_str(), line.as_str())?;
                 true
             }
             Err(Why::Memory) => return Err(AllocError),
@@ -203,7 +210,7 @@ impl Trace {
                 false
             }
         };
-        self.follow(number, place, call, row, is_said)
+        self.follow(caller, call, row, is_said)
     }
 }
 

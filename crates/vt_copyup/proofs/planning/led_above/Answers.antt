@@ -1,5 +1,5 @@
-use Rattle.std.proofs.Common.{rules, arith, ap, length, None, Some, slice_get, subst, sym, ◌≡◌, ◌<◌, ◌≤◌, ◌∙◌}
-use Rattle.vt_spec.proofs.Common.{none_is_some, same_Some, slice_get_within}
+use Rattle.std.proofs.Common.{arith}
+use Rattle.vt_spec.proofs.Common.{slice_get_within}
 use Rattle.vt_copyup.proofs.Ways.{leads_on}
 use Rattle.vt_copyup.proofs.planning.led_above.Goals as goal
 

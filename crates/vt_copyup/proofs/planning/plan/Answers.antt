@@ -1,7 +1,6 @@
-use Rattle.std.proofs.Common.{rules, arith, ◌≡◌, ◌∷◌, ◌∙◌, ◌<◌, ◌+◌, ◌≤◌, ap, length, List, reverse, slice_get, Some, subst, sym, take}
+use Rattle.std.proofs.Common.{arith, ◌≡◌, ◌∷◌, ◌∙◌, ◌<◌, ◌+◌, ap, length, List, reverse, slice_get, subst, sym, take}
 use Rattle.vt_spec.proofs.Common.{length-reverse, same_Some}
 use Rattle.vt_spec.specs.Machine.Layers.{at_path}
-use Rattle.vt_location.specs.Locations.{inode_of}
 use Rattle.vt_overlay.specs.declared.merge.layers.LayerRef.{LayerRef}
 use Rattle.vt_overlay.specs.Merge.LayerValue.{opened}
 use Rattle.vt_copyup.specs.Planned.{AreCopiesFrom, ArePlannedBy}

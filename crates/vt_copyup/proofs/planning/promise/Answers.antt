@@ -1,5 +1,3 @@
-use Rattle.std.proofs.Common.{rules, ◌≡◌}
-use Rattle.vt_fs.specs.FilesystemsValue.{promising, with_changed}
 use Rattle.vt_copyup.proofs.Changed.{promises_given_back}
 use Rattle.vt_copyup.proofs.planning.promise.Goals as goal
 

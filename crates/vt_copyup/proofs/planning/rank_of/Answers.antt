@@ -1,4 +1,4 @@
-use Rattle.std.proofs.Common.{rules, None, Some, ap, sym, ◌≡◌, ◌∙◌}
+use Rattle.std.proofs.Common.{rules, Some, ap, sym, ◌≡◌, ◌∙◌}
 use Rattle.vt_spec.proofs.Common.{entries_in}
 use Rattle.vt_location.specs.declared.numbers.FilesystemId.{FilesystemId}
 use Rattle.vt_location.specs.Locations.{inode_of}

@@ -1,5 +1,5 @@
 use Rattle.std.proofs.Common.{ap, is_some, None, option_copied, option_map, Some, sym, true≢false, ◌∙◌, ◌≡◌}
-use Rattle.vt_spec.proofs.Common.{Node, same_Some}
+use Rattle.vt_spec.proofs.Common.{same_Some}
 use Rattle.vt_location.specs.declared.locations.NodeRef.{NodeRef}
 use Rattle.vt_location.specs.Locations.{inode_of, number_of}
 use Rattle.vt_fs.specs.FilesystemsValue.{files_at, node_seen}

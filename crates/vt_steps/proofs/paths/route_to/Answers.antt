@@ -7,8 +7,8 @@ use Rattle.vt_steps.proofs.paths.route_to.Goals as goal
 
 pub returns : goal.returns
 returns g c =
-    let looks = g.L.Look.looks c.args.world.now in
-    let task = task_of c.args.who.now in
+    let looks = g.L.Look.looks c.args.walker.now.world.now in
+    let task = task_of c.args.walker.now.who.now in
     let words = words_in c.in_ok-steps.steps in
     route-walked looks task c.args.aim c.args.path.now
     (sym c.in-Ok.ensures.value ∙ ap (λ text. Ok text) c.in-Ok.ensures.text) words c.last_fails-fails.result

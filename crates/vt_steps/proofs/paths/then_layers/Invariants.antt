@@ -7,7 +7,7 @@ use Rattle.vt_steps.proofs.paths.then_layers.Given as goal
 
 abbrev pub invariant-loop-lower : goal.invariant-loop-lower
 invariant-loop-lower g l =
-    map route_of l.all.items
-    ++ map (λ path. here_route (source_walk nat_eq (g.L.Look.looks l.world) (task_of l.who) path)) l.lowers
-    ≡ map route_of l.fn.first.items
-    ++ map (λ path. here_route (source_walk nat_eq (g.L.Look.looks l.world) (task_of l.who) path)) l.options.lowers
+    let looks = g.L.Look.looks l.walker.world.now in
+    let task = task_of l.walker.who.now in
+    map route_of l.all.items ++ map (λ path. here_route (source_walk nat_eq looks task path)) l.lowers
+    ≡ map route_of l.fn.first.items ++ map (λ path. here_route (source_walk nat_eq looks task path)) l.options.lowers

@@ -25,8 +25,8 @@ at-symlink here named link there = sym (ap (λ object. record {
 
 pub returns-then-depth-eq0 : goal.returns-then-depth-eq0
 returns-then-depth-eq0 g t c =
-    let looks = g.L.Look.looks c.args.world.now in
-    let task = task_of c.args.who.now in
+    let looks = g.L.Look.looks c.args.walker.now.world.now in
+    let task = task_of c.args.walker.now.who.now in
     let start = here_of c.args.start in
     ends-refused place_of _ c.denial.result c.args.start.steps c.refused.result c.refused.ensures
     (ap (λ depth. file_walked nat_eq depth looks task start c.args.text.now c.args.slash) c.if-depth-eq0.true
@@ -34,15 +34,19 @@ returns-then-depth-eq0 g t c =
 
 pub returns-in_err-prefix : goal.returns-in_err-prefix
 returns-in_err-prefix g t c =
+    let looks = g.L.Look.looks c.args.walker.now.world.now in
+    let task = task_of c.args.walker.now.who.now in
     let p = err_from_is_err_and c.from_residual.result c.from_residual.ensures.1 in
-    rw (p.1, p.2) (front-halted (g.L.Look.looks c.args.world.now) (task_of c.args.who.now) c.args.depth
+    rw (p.1, p.2) (front-halted looks task c.args.depth
     (omega (arith, c.if-depth-eq0.false)) (here_of c.args.start) c.args.text.now c.args.slash _
     (ends-as-halted (λ (prefix : Prefix). here_of prefix.here) here_of _ _ c.in_err-prefix.ensures.walk))
 
 pub returns-in_err-named : goal.returns-in_err-named
 returns-in_err-named g t c =
+    let looks = g.L.Look.looks c.args.walker.now.world.now in
+    let task = task_of c.args.walker.now.who.now in
     let p = err_from_is_err_and c.from_residual-in_err-named.result c.from_residual-in_err-named.ensures.1 in
-    rw (p.1, p.2) (name-halted (g.L.Look.looks c.args.world.now) (task_of c.args.who.now) c.args.depth
+    rw (p.1, p.2) (name-halted looks task c.args.depth
     (omega (arith, c.if-depth-eq0.false)) (here_of c.args.start) c.args.text.now c.args.slash
     c.asks_for_directory-slash.result c.asks_for_directory-slash.ensures (last_of c.in_ok-prefix.prefix.last)
     c.in_ok-prefix.ensures.last (here_of c.in_ok-prefix.prefix.here) c.in_ok-prefix.ensures.walk _
@@ -50,8 +54,8 @@ returns-in_err-named g t c =
 
 pub returns-in_default : goal.returns-in_default
 returns-in_default g t c =
-    let looks = g.L.Look.looks c.args.world.now in
-    let task = task_of c.args.who.now in
+    let looks = g.L.Look.looks c.args.walker.now.world.now in
+    let task = task_of c.args.walker.now.who.now in
     file-ended looks task c.args.depth (omega (arith, c.if-depth-eq0.false)) (here_of c.args.start)
     c.args.text.now c.args.slash c.asks_for_directory-slash.result c.asks_for_directory-slash.ensures
     (last_of c.in_ok-prefix.prefix.last) c.in_ok-prefix.ensures.last (here_of c.in_ok-prefix.prefix.here)
@@ -61,8 +65,8 @@ returns-in_default g t c =
 
 pub returns-in_err-begun : goal.returns-in_err-begun
 returns-in_err-begun g t c =
-    let looks = g.L.Look.looks c.args.world.now in
-    let task = task_of c.args.who.now in
+    let looks = g.L.Look.looks c.args.walker.now.world.now in
+    let task = task_of c.args.walker.now.who.now in
     let p = err_from_is_err_and c.from_residual-in_err-begun.result c.from_residual-in_err-begun.ensures.1 in
     rw (p.1, p.2) (link-halted looks task c.args.depth (omega (arith, c.if-depth-eq0.false)) (here_of c.args.start)
     c.args.text.now c.args.slash c.asks_for_directory-slash.result c.asks_for_directory-slash.ensures
@@ -75,8 +79,8 @@ returns-in_err-begun g t c =
 
 pub returns : goal.returns
 returns g t c =
-    let looks = g.L.Look.looks c.args.world.now in
-    let task = task_of c.args.who.now in
+    let looks = g.L.Look.looks c.args.walker.now.world.now in
+    let task = task_of c.args.walker.now.who.now in
     link-gone looks task c.args.depth (omega (arith, c.if-depth-eq0.false)) (here_of c.args.start)
     c.args.text.now c.args.slash c.asks_for_directory-slash.result c.asks_for_directory-slash.ensures
     (last_of c.in_ok-prefix.prefix.last) c.in_ok-prefix.ensures.last (here_of c.in_ok-prefix.prefix.here)

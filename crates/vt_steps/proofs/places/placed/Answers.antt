@@ -9,8 +9,10 @@ use Rattle.vt_steps.proofs.places.placed.Goals as goal
 
 pub returns-in-Err : goal.returns-in-Err
 returns-in-Err g c =
+    let looks = g.L.Look.looks c.args.walker.now.world.now in
+    let task = task_of c.args.walker.now.who.now in
     ends-refused place_of _ c.in-Err.deny c.in_ok-steps.steps c.refused.result c.refused.ensures
-    (place-refused (g.L.Look.looks c.args.world.now) (task_of c.args.who.now) (here_of c.args.here)
+    (place-refused looks task (here_of c.args.here)
     (steps_of c.in_ok-steps.steps) c.args.slash c.in-Err.deny (last_of c.args.last)
     (sym c.is_no_word.ensures ∙ c.if-is_no_word.false)
     (c.in_ok-steps.ensures ∙ ap (λ met. met ∷ steps_of c.args.here.steps) c.in_ok-step.ensures.met)

@@ -5,5 +5,5 @@ use Rattle.vt_steps.proofs.walked.object_steps.Goals as goal
 pub returns : goal.returns
 returns g c =
     c.here_steps.ensures
-    (all_walked (g.L.Look.looks c.args.world.now) (task_of c.args.who.now) c.args.path.now)
+    (all_walked (g.L.Look.looks c.args.walker.now.world.now) (task_of c.args.walker.now.who.now) c.args.path.now)
     c.object_walked.ensures

@@ -5,5 +5,6 @@ use Rattle.vt_steps.proofs.walked.symlink_steps.Goals as goal
 
 pub returns : goal.returns
 returns g c = rw (sym c.ends_in_slash.ensures ∙ c.if-ends_in_slash.false)
-    (c.here_steps.ensures (unfollowed (g.L.Look.looks c.args.world.now) (task_of c.args.who.now) c.args.path.now)
+    (c.here_steps.ensures (unfollowed (g.L.Look.looks c.args.walker.now.world.now)
+    (task_of c.args.walker.now.who.now) c.args.path.now)
     c.symlink_walked.ensures)

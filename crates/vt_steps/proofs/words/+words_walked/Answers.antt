@@ -10,8 +10,8 @@ use Rattle.vt_steps.proofs.words.+words_walked.Goals as goal
 
 pub returns-in_err-next : goal.returns-in_err-next
 returns-in_err-next g t c =
-    let looks = g.L.Look.looks c.args.world.now in
-    let task = task_of c.args.who.now in
+    let looks = g.L.Look.looks c.args.walker.now.world.now in
+    let task = task_of c.args.walker.now.who.now in
     let p = err_from_is_err_and c.from_residual.result c.from_residual.ensures.1 in
     rw (p.1, p.2) (word-halted looks task (symlink_walked nat_eq c.args.depth looks task) (here_of c.args.start)
     (here_of c.loop-word.here) c.args.words c.loop-word.words c.loop-word.invariant c.in-Some.word.now
@@ -19,8 +19,8 @@ returns-in_err-next g t c =
 
 pub returns-then-depth-eq0 : goal.returns-then-depth-eq0
 returns-then-depth-eq0 g t c =
-    let looks = g.L.Look.looks c.args.world.now in
-    let task = task_of c.args.who.now in
+    let looks = g.L.Look.looks c.args.walker.now.world.now in
+    let task = task_of c.args.walker.now.who.now in
     let here = here_of c.loop-word.here in
     let next = here_of c.in_ok-next.next in
     let text = c.in-Some-symlink_text.text.now in
@@ -34,8 +34,8 @@ returns-then-depth-eq0 g t c =
 
 pub returns-in_err-begun-in-Some-symlink_text : goal.returns-in_err-begun-in-Some-symlink_text
 returns-in_err-begun-in-Some-symlink_text g t c =
-    let looks = g.L.Look.looks c.args.world.now in
-    let task = task_of c.args.who.now in
+    let looks = g.L.Look.looks c.args.walker.now.world.now in
+    let task = task_of c.args.walker.now.who.now in
     let here = here_of c.loop-word.here in
     let next = here_of c.in_ok-next.next in
     let text = c.in-Some-symlink_text.text.now in
@@ -49,8 +49,8 @@ returns-in_err-begun-in-Some-symlink_text g t c =
 
 pub returns-in_err-ended-in-Some-symlink_text : goal.returns-in_err-ended-in-Some-symlink_text
 returns-in_err-ended-in-Some-symlink_text g t c =
-    let looks = g.L.Look.looks c.args.world.now in
-    let task = task_of c.args.who.now in
+    let looks = g.L.Look.looks c.args.walker.now.world.now in
+    let task = task_of c.args.walker.now.who.now in
     let here = here_of c.loop-word.here in
     let next = here_of c.in_ok-next.next in
     let text = c.in-Some-symlink_text.text.now in
@@ -65,8 +65,8 @@ returns-in_err-ended-in-Some-symlink_text g t c =
 
 pub returns-in_err-here-in-Some-symlink_text : goal.returns-in_err-here-in-Some-symlink_text
 returns-in_err-here-in-Some-symlink_text g t c =
-    let looks = g.L.Look.looks c.args.world.now in
-    let task = task_of c.args.who.now in
+    let looks = g.L.Look.looks c.args.walker.now.world.now in
+    let task = task_of c.args.walker.now.who.now in
     let here = here_of c.loop-word.here in
     let next = here_of c.in_ok-next.next in
     let text = c.in-Some-symlink_text.text.now in
@@ -83,8 +83,8 @@ returns-in_err-here-in-Some-symlink_text g t c =
 pub loop-word-preserved-in_ok-here-in-Some-symlink_text :
     goal.loop-word-preserved-in_ok-here-in-Some-symlink_text
 loop-word-preserved-in_ok-here-in-Some-symlink_text g t c =
-    let looks = g.L.Look.looks c.args.world.now in
-    let task = task_of c.args.who.now in
+    let looks = g.L.Look.looks c.args.walker.now.world.now in
+    let task = task_of c.args.walker.now.who.now in
     let here = here_of c.loop-word.here in
     let next = here_of c.in_ok-next.next in
     let text = c.in-Some-symlink_text.text.now in
@@ -99,7 +99,8 @@ loop-word-preserved-in_ok-here-in-Some-symlink_text g t c =
 
 pub returns : goal.returns
 returns g t c =
-    sym (walk-ended (g.L.Look.looks c.args.world.now) (task_of c.args.who.now)
-    (symlink_walked nat_eq c.args.depth (g.L.Look.looks c.args.world.now) (task_of c.args.who.now))
+    let looks = g.L.Look.looks c.args.walker.now.world.now in
+    let task = task_of c.args.walker.now.who.now in
+    sym (walk-ended looks task (symlink_walked nat_eq c.args.depth looks task)
     (here_of c.args.start) (here_of c.loop-word.here) c.args.words c.loop-word.words c.loop-word.invariant
     c.in_default.ensures.steps.0)

@@ -10,7 +10,7 @@ decreases-words_walked g l = l.depth
 
 abbrev pub invariant-loop-word : goal.invariant-loop-word
 invariant-loop-word g l =
-    walked_on (g.L.Look.looks l.world) (task_of l.who)
-    (symlink_walked nat_eq l.depth (g.L.Look.looks l.world) (task_of l.who)) (here_of l.here) l.words
-    ≡ walked_on (g.L.Look.looks l.world) (task_of l.who)
-    (symlink_walked nat_eq l.depth (g.L.Look.looks l.world) (task_of l.who)) (here_of l.fn.start) l.fn.words
+    let looks = g.L.Look.looks l.walker.world.now in
+    let task = task_of l.walker.who.now in
+    walked_on looks task (symlink_walked nat_eq l.depth looks task) (here_of l.here) l.words
+    ≡ walked_on looks task (symlink_walked nat_eq l.depth looks task) (here_of l.fn.start) l.fn.words

@@ -5,5 +5,8 @@ use Rattle.vt_steps.proofs.WordsWalked.{last-some}
 use Rattle.vt_steps.proofs.words.last_walked.Goals as goal
 
 pub returns-in_default : goal.returns-in_default
-returns-in_default g c = ends-alike here_of _ _ c.word_walked.result (last-some (g.L.Look.looks c.args.world.now)
-    (task_of c.args.who.now) (here_of c.args.here) c.args.last c.in_default.not-NoWord) c.word_walked.ensures
+returns-in_default g c =
+    let looks = g.L.Look.looks c.args.walker.now.world.now in
+    let task = task_of c.args.walker.now.who.now in
+    ends-alike here_of _ _ c.word_walked.result
+    (last-some looks task (here_of c.args.here) c.args.last c.in_default.not-NoWord) c.word_walked.ensures

@@ -9,8 +9,10 @@ use Rattle.vt_steps.proofs.words.word_walked.Goals as goal
 
 pub returns-in-Err : goal.returns-in-Err
 returns-in-Err g c =
+    let looks = g.L.Look.looks c.args.walker.now.world.now in
+    let task = task_of c.args.walker.now.who.now in
     ends-refused here_of _ c.in-Err.deny c.in_ok-steps.steps c.refused.result c.refused.ensures
-    (word-refused (g.L.Look.looks c.args.world.now) (task_of c.args.who.now) (here_of c.args.here)
+    (word-refused looks task (here_of c.args.here)
     (last_of c.args.word) (steps_of c.in_ok-steps.steps)
     (c.in_ok-steps.ensures ∙ ap (λ met. met ∷ steps_of c.args.here.steps) c.in_ok-step.ensures.met) c.in-Err.deny
     (sym (ap location_result c.in-Err.is) ∙ c.in_ok-step.ensures.reached))

@@ -4,7 +4,6 @@ use Rattle.vt_spec.specs.Inodes as counting
 use Rattle.vt_location.specs.declared.locations.NodeRef.{NodeRef}
 use Rattle.vt_location.specs.Locations.{inode_of, number_of}
 use Rattle.vt_location.specs.Numbers.{inode_number}
-use Rattle.vt_location.proofs.NumberLemmas.{exchanged_slot}
 use Rattle.vt_fs.specs.FilesystemsValue.{ChangesInodes, entry_at, files_at, next_seen, node_seen}
 use Rattle.vt_laws_worlds.specs.Merging.UpperChanges.{copy_node}
 use Rattle.vt_copyup.proofs.Next.{has_no_name, is_next, number_is}

@@ -1,19 +1,22 @@
-use Rattle.std.proofs.Common.{rules, arith, ◌≡◌, ◌++◌, ◌∷◌, ◌∙◌, [], ap, append_assoc, length, length-append, List, None, reverse, subst, sym, true}
+use Rattle.std.proofs.Common.{rules, arith, ◌≡◌, ◌++◌, ◌∷◌, ◌∙◌, [], ap, append-nil, append_assoc, length, length-append, None, reverse, subst, sym, true}
 use Rattle.vt_spec.proofs.Common.{All-head, reverse-append}
 use Rattle.vt_births.specs.Births.{copy_of, is_born_below}
-use Rattle.vt_copyup.specs.Made.{AreMade}
+use Rattle.vt_copyup.specs.Made.{AreMade, parent_made}
 use Rattle.vt_copyup.specs.Plans.{AreReady, FirstFits, copies_of, in_turn}
 use Rattle.vt_copyup.specs.declared.plans.Piece.{Piece}
 use Rattle.vt_location.specs.declared.locations.InodeRef.{InodeRef}
-use Rattle.vt_copyup.proofs.Stepping.{IsStep, OwnFits, fits_next, last_filesystem, none_made, one_more, ready_next}
-use Rattle.vt_copyup.proofs.plans.Plan.apply.Goals as goal
+use Rattle.vt_copyup.proofs.Stepping.{IsStep, OwnFits, fits_next, last_filesystem, none_made, none_parent, one_more, ready_next}
+use Rattle.vt_copyup.proofs.plans.Plan.grow.Goals as goal
 
 pub returns-in_default-clause-made : goal.returns-in_default-clause-made
 returns-in_default-clause-made c =
     let none : c.args.self.pieces.items ≡ [] = search rules in
-    subst (λ items. AreMade c.args.self.directory (copies_of (reverse items)) c.args.trees.now c.args.births.now
-    c.args.trees.now c.args.births.now c.args.self.directory) (sym none)
-    (none_made c.args.self.directory c.args.trees.now c.args.births.now)
+    subst (λ items. (are : AreMade c.args.self.directory (copies_of (reverse items)) c.args.trees.now c.args.births.now
+    c.args.trees.now c.args.births.now c.args.self.directory) × (c.args.self.directory
+    ≡ parent_made c.args.self.directory are.made)) (sym none) (
+      none_made c.args.self.directory c.args.trees.now c.args.births.now,
+      none_parent c.args.self.directory c.args.trees.now c.args.births.now,
+    )
 
 pub make-here-requires-clause-below : goal.make-here-requires-clause-below
 make-here-requires-clause-below c =
@@ -55,11 +58,13 @@ loop-piece-init c =
       inodes_left = c.make-here.ensures.inodes_left;
       births_left = c.make-here.ensures.births_left;
     } in
+    let more = one_more directory [] first.copy trees births trees births c.make-here.new.trees c.make-here.new.births
+    directory c.make-here.result (none_made directory trees births) step fits.there in
     record {
       done = first.copy ∷ [];
       split = ap copies_of (sym turned);
-      made = one_more directory [] first.copy trees births trees births c.make-here.new.trees c.make-here.new.births
-          directory c.make-here.result (none_made directory trees births) step fits.there;
+      made = more.0;
+      parent_is = more.1;
       ready = ready_next first rest directory trees births c.make-here.new.trees c.make-here.new.births
           c.make-here.result step fits.there ready;
       fits = fits_next first rest directory trees births c.make-here.new.trees c.make-here.new.births
@@ -111,17 +116,29 @@ loop-piece-preserved c =
       inodes_left = made.ensures.inodes_left;
       births_left = made.ensures.births_left;
     } in
+    let more = one_more c.args.self.directory was.done piece.copy c.args.trees.now c.args.births.now trees births
+    made.new.trees made.new.births here made.result was.made step fits.there in
     record {
       done = was.done ++ piece.copy ∷ [];
       split = append_assoc was.done (piece.copy ∷ []) (copies_of (reverse items))
           ∙ ap (λ l. was.done ++ copies_of l) (sym turned) ∙ was.split;
-      made = one_more c.args.self.directory was.done piece.copy c.args.trees.now c.args.births.now trees births
-          made.new.trees made.new.births here made.result was.made step fits.there;
+      made = more.0;
+      parent_is = more.1;
       ready = ready_next piece (reverse items) here trees births made.new.trees made.new.births made.result step
           fits.there ready;
       fits = fits_next piece (reverse items) here trees births made.new.trees made.new.births made.result step
           fits.there ready;
     }
+
+pub returns-clause-made : goal.returns-clause-made
+returns-clause-made c =
+    let was = c.loop-piece.invariant in
+    let directory = c.args.self.directory in
+    let none : c.loop-piece.pieces.items ≡ [] = search rules in
+    let all : was.done ≡ copies_of (in_turn c.args.self) =
+    sym (append-nil was.done) ∙ ap (λ items. was.done ++ copies_of (reverse items)) (sym none) ∙ was.split in
+    subst (λ l. (are : AreMade directory l c.args.trees.now c.args.births.now c.loop-piece.trees c.loop-piece.births
+    c.loop-piece.here) × (c.loop-piece.parent ≡ parent_made directory are.made)) all (was.made, was.parent_is)
 
 pub returns-clause-filesystem : goal.returns-clause-filesystem
 returns-clause-filesystem c =
