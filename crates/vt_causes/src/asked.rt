@@ -1,4 +1,5 @@
 //! The paths of a call.
+use vt_options::LayerOptions;
 use vt_request::{
     Call, Creation, DescriptorCall, LookCall, MakeCall, MountCall, RemoveCall, TaskCall, WriteCall,
 };
@@ -124,8 +125,10 @@ pub fn second_path<'a>(call: &Call<'a>) -> Option<PathAsked<'a>> {
     Some(PathAsked { text, last })
 }
 
-/// The options of the overlay that a call is to mount, if it is such a call.
-pub fn overlay_options<'a>(call: &Call<'a>) -> Option<&'a [u8]> {
+/// The options of the overlay that a call is to mount, or a text that is none, if it is such a call.
+pub fn overlay_options<'b, 'a>(
+    call: &'b Call<'a>,
+) -> Option<&'b Result<LayerOptions<'a>, &'a [u8]>> {
     match call {
         Call::Mount(MountCall::Overlay { options, .. }) => Some(options),
         _ => None,

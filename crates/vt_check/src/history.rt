@@ -7,9 +7,9 @@ use crate::words::{Word, parts_of, word_at};
 use std::alloc::{AllocError, Global};
 use std::collections::BTreeMap;
 use std::mem;
-use vt_layers::LayerOptions;
 use vt_line::line::Line;
 use vt_line::version::Version;
+use vt_options::LayerOptions;
 use vt_request::{
     Call, Creation, DescriptorCall, MakeCall, MountCall, RemoveCall, TaskCall, TaskName, WriteCall,
 };
@@ -233,23 +233,27 @@ impl History {
 
     // A warning about the words of a mount of an overlay: they stand in each other's place, a run refuses an option, or
     // there are no two layers.
-    fn of_overlay(&self, line: &[u8], path: &[u8], options: &[u8]) -> Option<Diagnosis> {
-        let all = LayerOptions::parse(options);
-        if all.is_none() && LayerOptions::parse(path).is_some() {
-            let message = "options in the place of the path: a run refuses it";
-            let help = "the path comes first: `mount overlay /m lowerdir=/high:/low`";
-            return Some(self.warning(line, 3, message, help));
-        }
-        let bad = self.of_option(line, options);
-        match all {
-            _ if bad.is_some() => bad,
-            Some(all) if all.lowers().nth(1).is_some() => None,
-            _ => Some(self.warning(
+    fn of_overlay(
+        &self,
+        line: &[u8],
+        path: &[u8],
+        options: &Result<LayerOptions<'_>, &[u8]>,
+    ) -> Option<Diagnosis> {
+        match options {
+            Ok(all) if all.lowers().nth(1).is_some() => None,
+            Ok(_) => Some(self.warning(
                 line,
                 4,
                 "fewer than two layers: a run refuses it",
                 READ_ONLY,
             )),
+            Err(text)
+                if LayerOptions::parse(text).is_none() && LayerOptions::parse(path).is_some() => {
+                let message = "options in the place of the path: a run refuses it";
+                let help = "the path comes first: `mount overlay /m lowerdir=/high:/low`";
+                Some(self.warning(line, 3, message, help))
+            }
+            Err(text) => self.of_option(line, text),
         }
     }
 

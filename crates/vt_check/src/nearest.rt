@@ -4,7 +4,7 @@ use crate::finding::Diagnosis;
 use crate::grammar::{CAPABILITIES, CallWords, Kind, calls};
 use crate::unmodelled::nearest_to;
 use strsim::osa_distance;
-use vt_layers::LayerOptions;
+use vt_options::LayerOptions;
 
 /// Whether a word is more like the text than all before it, and how many letters differ then: at most two, or one of a
 /// text of up to four.

@@ -66,7 +66,7 @@ fn push_before(
         walks.second = push_walk(view, path, format, text, halt);
     }
     // The walks to the layers follow that to the destination.
-    if let (Some(options), Some(_)) = (overlay_options(call), walks.first_end()) {
+    if let (Some(Ok(options)), Some(_)) = (overlay_options(call), walks.first_end()) {
         walks.layer = push_layers(view, options, format, text, halt);
     }
     walks

@@ -2,10 +2,11 @@
 use crate::refusal::Refusal;
 use vt_causes::Cause;
 use vt_causes::asked::overlay_options;
-use vt_layers::{LayerOptions, MOST_LOWERS};
+use vt_layers::MOST_LOWERS;
 use vt_location::Location;
 use vt_looks::Look;
 use vt_ns::World;
+use vt_options::LayerOptions;
 use vt_spec::errors::Deny;
 use vt_tasks::Task;
 use vt_text::path::PathText;
@@ -40,6 +41,14 @@ fn overlaid(world: &World, layers: &[Location]) -> Option<Location> {
     None
 }
 
+// Whether a text is an option, and none of an upper layer, which scripts do not have.
+fn is_known(option: &[u8]) -> bool {
+    match LayerOptions::parse(option) {
+        Some(known) => known.upper().is_none(),
+        None => false,
+    }
+}
+
 // Words on an option that this version does not have.
 fn words_of_option(option: &[u8]) -> &'static str {
     if option.starts_with(b"upperdir=") || option.starts_with(b"workdir=") {
@@ -51,9 +60,9 @@ fn words_of_option(option: &[u8]) -> &'static str {
 
 impl<'a> Refusal<'a> {
     // Where the layers of these options lead, from the top; nothing where a walk is refused.
-    fn layers(&self, options: &'a [u8]) -> Option<Vec<Location>> {
+    fn layers(&self, options: &LayerOptions<'_>) -> Option<Vec<Location>> {
         let mut layers = Vec::new(self.world.alloc());
-        let mut paths = LayerOptions::known(options)?.lowers();
+        let mut paths = options.lowers();
         while let Some(path) = paths.next() {
             let layer = layer_at(self.world, self.who, path).ok()?;
             layers.push(layer).ok()?;
@@ -64,7 +73,7 @@ impl<'a> Refusal<'a> {
     // The option that is none of an overlay, or of one with an upper layer.
     fn of_option(&self, options: &'a [u8]) -> Cause<'a> {
         for option in options.split(|byte| *byte == b',') {
-            if LayerOptions::known(option).is_none() {
+            if !is_known(option) {
                 return Cause {
                     word: option,
                     ..self.told(words_of_option(option))
@@ -91,12 +100,13 @@ impl<'a> Refusal<'a> {
 
     /// O2: the option, how many layers there are, or the layer that is on an overlay.
     pub(crate) fn of_options(&self) -> Option<Cause<'a>> {
-        let options = overlay_options(self.call)?;
-        if LayerOptions::known(options).is_none() {
-            return Some(self.of_option(options));
+        match overlay_options(self.call)? {
+            Ok(options) => {
+                let layers = self.layers(options)?;
+                self.of_layer(&layers)
+            }
+            Err(text) => Some(self.of_option(text)),
         }
-        let layers = self.layers(options)?;
-        self.of_layer(&layers)
     }
 
     // Two of these layers that overlap.
@@ -113,7 +123,9 @@ impl<'a> Refusal<'a> {
 
     /// O5: both layers.
     pub(crate) fn of_overlap(&self) -> Option<Cause<'a>> {
-        let options = overlay_options(self.call)?;
+        let Ok(options) = overlay_options(self.call)? else {
+            return None;
+        };
         let layers = self.layers(options)?;
         self.of_two_layers(&layers)
     }

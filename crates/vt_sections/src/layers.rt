@@ -5,8 +5,8 @@ use vt_causes::Walked;
 use vt_causes::asked::{Last, PathAsked};
 use vt_check::check::Format;
 use vt_check::draft::Draft;
-use vt_layers::LayerOptions;
 use vt_location::Location;
+use vt_options::LayerOptions;
 use vt_spec::errors::Deny;
 use vt_text::path::PathText;
 use vt_walk::source_walk;
@@ -25,8 +25,12 @@ fn reached(view: View<'_>, path: &[u8]) -> Result<Location, Deny> {
 
 // Adds the layers of these options, each by its place from the top, up to the first one to which the walk is refused,
 // and returns that one's path.
-fn add_layers<'a>(view: View<'_>, section: &mut Section, options: &'a [u8]) -> Option<&'a [u8]> {
-    let mut paths = LayerOptions::known(options)?.lowers();
+fn add_layers<'a>(
+    view: View<'_>,
+    section: &mut Section,
+    options: &LayerOptions<'a>,
+) -> Option<&'a [u8]> {
+    let mut paths = options.lowers();
     let mut place: u64 = 0;
     while let Some(path) = paths.next() {
         place = place.saturating_add(1);
@@ -49,7 +53,7 @@ fn add_layers<'a>(view: View<'_>, section: &mut Section, options: &'a [u8]) -> O
 /// returns where that walk came to.
 pub fn push_layers(
     view: View<'_>,
-    options: &[u8],
+    options: &LayerOptions<'_>,
     format: Format,
     text: &mut Draft,
     halt: &mut Vec<u8>,

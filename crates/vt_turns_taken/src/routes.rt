@@ -2,9 +2,9 @@
 use crate::aims::{Aim, Route, routes_of};
 use crate::words::{View, words_of};
 use std::alloc::{AllocError, Global};
-use vt_layers::LayerOptions;
 use vt_looks::Look;
 use vt_ns::World;
+use vt_options::LayerOptions;
 use vt_request::{Call, MountCall, TaskName};
 use vt_text::path::PathText;
 use vt_walk::{
@@ -73,17 +73,29 @@ impl Passed {
         Ok(())
     }
 
-    // Walks to the layers of an overlay with these options.
-    fn walk_layers(&mut self, view: View<'_>, options: &[u8]) -> Result<(), AllocError> {
-        let Some(options) = LayerOptions::known(options) else {
-            return Ok(());
+    // Walks to a layer of an overlay.
+    fn walk_layer(&mut self, view: View<'_>, path: &[u8]) -> Result<(), AllocError> {
+        let route = Route {
+            path,
+            aim: Aim::Source,
         };
+        self.walk(view, route, None)
+    }
+
+    // Walks to the layers of an overlay with these options.
+    fn walk_layers(
+        &mut self,
+        view: View<'_>,
+        options: &LayerOptions<'_>,
+    ) -> Result<(), AllocError> {
         for path in options.lowers() {
-            let route = Route {
-                path,
-                aim: Aim::Source,
-            };
-            self.walk(view, route, None)?;
+            self.walk_layer(view, path)?;
+        }
+        if let Some(path) = options.upper() {
+            self.walk_layer(view, path)?;
+        }
+        if let Some(path) = options.work() {
+            self.walk_layer(view, path)?;
         }
         Ok(())
     }
@@ -111,7 +123,13 @@ pub fn turns_of(
     if let Some(route) = second {
         passed.walk(view, route, first)?;
     }
-    if let Call::Mount(MountCall::Overlay { options, .. }) = call {
+    if let Call::Mount(
+        MountCall::Overlay {
+            options: Ok(options),
+            ..
+        },
+    ) = call
+    {
         passed.walk_layers(view, options)?;
     }
     Ok(passed.words.saturating_add(u64::from(!passed.is_refused)))
