@@ -107,7 +107,7 @@ fn played_text<C: TakesTurns, R: Eprint + AllocGlobal>(
     asked: ScheduleAsked<'_>,
     contents: Contents<'_>,
 ) -> Result<Vec<u8>, Fault>
-    ensures text { IfOk result (λ text. IsTextOfFiles C.world contents.entry text.items) }
+    ensures text { IfOk result (λ text. IsTextOfFiles contents.entry text.items) }
     ensures fault { IfErr result (λ fault. is_of_output fault ≡ false) }
 {
     let Some(version) = spoken(rt, name, asked.version, contents.script) else {
@@ -134,7 +134,7 @@ fn play_contents<C: TakesTurns, R: Eprint + AllocGlobal, W: Write>(
     contents: Contents<'_>,
     output: &mut W,
 ) -> Result<(), Fault>
-    ensures written { OnOk result (WritesText C.world W.contents contents.entry output.old output.new) }
+    ensures written { OnOk result (WritesText W.contents contents.entry output.old output.new) }
     ensures unwritten { IfErr result (λ fault. is_of_output fault ≡ false → output.new ≡ output.old) }
 {
     let text = played_text::<C, _>(rt, name, asked, contents)?;

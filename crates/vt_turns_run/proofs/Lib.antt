@@ -1,3 +1,4 @@
 pub mod Placing
 pub mod PlayedLines
 pub mod QueuedLines
+pub mod ToldTurns

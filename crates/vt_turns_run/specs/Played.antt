@@ -1,9 +1,9 @@
 -- A script is played in the order of a schedule, as the definitions see it.
-use Rattle.std.specs.Prelude.{List, None, Option, Some, [], filter_map, option_map, ℕ, ◌≡◌}
+use Rattle.std.specs.Prelude.{Bool, List, None, Option, Some, [], filter_map, option_map, ℕ, ◌≡◌}
 use Rattle.vt_spec.specs.Language.Script.{Version, Who, lines_of, overlays}
-use Rattle.vt_spec.specs.Machine.Turns.{Reply, queues_of, schedule_who}
+use Rattle.vt_spec.specs.Machine.Turns.{Reply, first_sched, queues_of, schedule_who}
 use Rattle.vt_spec.specs.Machine.World.{World}
-use Rattle.vt_laws_turns.specs.Commits.{text_of_replies}
+use Rattle.vt_laws_schedules.specs.OneText.{AllocationsMayFail, turns_text_as}
 use Rattle.vt_answers.specs.Numbers.{IsOpened}
 use Rattle.vt_io.specs.Sink.{Wrote, WroteFront}
 use Rattle.vt_io.specs.declared.output.Sink.{Ghosts}
@@ -11,7 +11,7 @@ use Rattle.vt_queues.specs.QueuesValue.{who_meant}
 use Rattle.vt_queues.specs.declared.item.Who.{Who as WhoCode}
 use Rattle.vt_turns.specs.Ends.{IsReady}
 use Rattle.vt_turns.specs.SchedValue.{sched_meant}
-use Rattle.vt_turns.specs.Turned.{AreRunWhole, PlaysAs, RestartsFew, TurnsAndKeeps}
+use Rattle.vt_turns.specs.Turned.{AreRunWhole, PlaysAs, RestartsFew, TurnsAndKeeps, allocates}
 use Rattle.vt_turns.specs.declared.sched.Reply.{Reply as ReplyCode}
 use Rattle.vt_turns.specs.declared.sched.Sched.{Sched}
 
@@ -43,22 +43,22 @@ module _ {C : Type 0} (seen : C → World ℕ) where
     pub whole : AreRunWhole seen first (turns_of schedule) replies last
     pub restarts : RestartsFew seen first (turns_of schedule) replies last
 
-  -- a text is that of such replies
-  pub record IsTextOfTurns (version : Version) (script schedule text : List ℕ) : Type 0 where
-    pub replies : List Reply
-    pub played : IsPlayed version script schedule replies
-    pub text_is : text ≡ text_of_replies replies
+-- A text is the definitions' text of the script in the order of the schedule, where an allocation may have failed in turns
+-- that allocate.
+pub record IsTextOfTurns (version : Version) (script schedule text : List ℕ) : Type 0 where
+  pub refused : List Bool
+  pub may_fail : AllocationsMayFail allocates 1 (first_sched (overlays version) script) (lines_of schedule) refused
+  pub told : text ≡ turns_text_as version refused script schedule
 
+module _ {W : Type 0} (sink : Ghosts W) where
   -- such a text is written
-  pub record WritesReplies {W : Type 0} (sink : Ghosts W) (version : Version) (script schedule : List ℕ) (before after : W)
-      : Type 0 where
+  pub record WritesReplies (version : Version) (script schedule : List ℕ) (before after : W) : Type 0 where
     pub text : List ℕ
     pub is : IsTextOfTurns version script schedule text
     pub wrote : Wrote sink before after text
 
   -- or, where a write failed, a beginning of one
-  pub record BeginsToWriteReplies {W : Type 0} (sink : Ghosts W) (version : Version) (script schedule : List ℕ)
-      (before after : W) : Type 0 where
+  pub record BeginsToWriteReplies (version : Version) (script schedule : List ℕ) (before after : W) : Type 0 where
     pub text : List ℕ
     pub is : IsTextOfTurns version script schedule text
     pub wrote : WroteFront sink before after text

@@ -2,12 +2,13 @@
 ghost use Rattle.std.specs.Prelude.{◌+◌, ◌<◌, ◌≡◌, ◌≤◌, IfErr, IfOk, map, vec_capacity, vec_len};
 ghost use Rattle.vt_spec.specs.declared.errors.Rule.TheVariants.{S5};
 ghost use Rattle.vt_spec.specs.Errors.{denial};
+ghost use Rattle.vt_laws_turns.specs.Commits.{text_of_replies};
 ghost use Rattle.vt_line.specs.Versions.{version_of};
 ghost use Rattle.vt_queues.specs.QueuesValue.{who_meant};
 ghost use Rattle.vt_turns.specs.Ends.{IsReady};
 ghost use Rattle.vt_turns.specs.SchedValue.{reply_meant, sched_meant};
 ghost use Rattle.vt_turns.specs.Turned.{PlaysAs, TurnsAndKeeps};
-ghost use Rattle.vt_turns_run.specs.Played.{IsPlayed, TakesLine, turns_in};
+ghost use Rattle.vt_turns_run.specs.Played.{IsPlayed, IsTextOfTurns, TakesLine, turns_in};
 
 use crate::reading::{queues_of, turns_of};
 use std::alloc::Global;
@@ -96,8 +97,8 @@ fn play<C: TakesTurns>(
 /// Answers a script in turns: each task, and `!`, has a queue of its lines, and each line of the schedule gives one of
 /// them a turn.
 ///
-/// The replies are those of `Sched::play` in the order of the turns. S5 (ENOMEM): an allocation failed before the first
-/// turn.
+/// The replies are those of `Sched::play` in the order of the turns, and their text is the definitions' (`text`), also
+/// where an allocation fails in a turn. S5 (ENOMEM): an allocation failed before the first turn.
 pub fn play_script<C: TakesTurns>(
     version: Version,
     alloc: Global,
@@ -106,6 +107,8 @@ pub fn play_script<C: TakesTurns>(
 ) -> Result<Played, Deny>
     ensures plays { IfOk result (λ played. IsPlayed C.world (version_of version) script.now schedule.now
         (map reply_meant played.replies.items)) }
+    ensures text { IfOk result (λ played. IsTextOfTurns (version_of version) script.now schedule.now
+        (text_of_replies (map reply_meant played.replies.items))) }
     ensures err { IfErr result (λ deny. deny ≡ denial S5) }
 {
     let queues = queues_of(version, alloc, script)?;

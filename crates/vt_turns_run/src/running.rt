@@ -70,12 +70,12 @@ pub fn turns_run<C: TakesTurns, R: Source, S: Source, W: Sink>(
     requires schedule_countable { S.failures schedule.old + 1 < 2 ^ 64 }
     requires sink_countable { W.failures sink.old + 1 < 2 ^ 64 }
 
-    // Where the sources and the sink tell their bytes: the replies to all that was to come are written, or, after a failed
-    // write, a beginning of them.
-    ensures ok { OnOk result (R.tells script.old → S.tells schedule.old → WritesReplies C.world W.Sink (version_of version)
+    // Where the sources and the sink tell their bytes: the text of all that was to come is written, or, after a failed
+    // write, a beginning of it.
+    ensures ok { OnOk result (R.tells script.old → S.tells schedule.old → WritesReplies W.Sink (version_of version)
         (R.rest script.old) (S.rest schedule.old) sink.old sink.new) }
     ensures after_write { IsErrOf result RunFault.Write → R.tells script.old → S.tells schedule.old
-        → BeginsToWriteReplies C.world W.Sink (version_of version) (R.rest script.old) (S.rest schedule.old) sink.old sink.new }
+        → BeginsToWriteReplies W.Sink (version_of version) (R.rest script.old) (S.rest schedule.old) sink.old sink.new }
 
     // Before the first turn nothing was written.
     ensures read { IsErrOf result RunFault.Read → sink.new ≡ sink.old }
