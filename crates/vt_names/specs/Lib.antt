@@ -1,0 +1,4 @@
+pub mod NamesValue
+pub mod Pairs
+pub mod Answers
+pub mod Says
