@@ -1,5 +1,5 @@
 -- The uses of nodes where one is put in, is counted, or goes.
-use Rattle.std.proofs.Common.{◌≡◌, ◌<◌, ℕ, Bool, true, false, cond, List, Option, None, Some, ap, is_some, lt-ltb, nat_lt, refl, sym, unwrap_or, ◌∙◌}
+use Rattle.std.proofs.Common.{◌≡◌, ◌<◌, ℕ, Bool, true, false, cond, List, Option, None, Some, ap, is_some, lt-ltb, nat_lt, refl, sym, true≢false, unwrap_or, ◌∙◌}
 use Rattle.std.specs.List.{list_any}
 use Rattle.std.specs.Map.{keys_of, lookup}
 use Rattle.std.proofs.lemmas.Map.Made.{is_some-lookup}
@@ -60,3 +60,32 @@ any-used uses used node = sym (is_some-lookup (same_node node) uses) ∙ by (fou
     by : (r : Option ℕ) → found uses node ≡ r → is_some r ≡ nat_lt 0 (unwrap_or r 0)
     by None e = refl
     by (Some n) e = sym (lt-ltb 0 n (used node n e))
+
+-- a node is there after an update of one just if it was, or if more than its last use is left
+pub kept-updated : (node : NodeRef) (o w : Option ℕ) (old new : Uses) → found old node ≡ o
+    → is_some w ≡ nat_lt 1 (unwrap_or o 0) → IsUpdated node w old new → (q : NodeRef)
+    → list_any (same_node q) (keys_of new)
+    ≡ cond (same_node node q) (nat_lt 1 (count old q)) (list_any (same_node q) (keys_of old))
+kept-updated node o w old new there is updated q =
+    sym (is_some-lookup (same_node q) new) ∙ ap is_some (updated q) ∙ by (same_node node q) refl
+  where
+    by : (test : Bool) → same_node node q ≡ test → is_some (cond test w (found old q))
+        ≡ cond test (nat_lt 1 (count old q)) (list_any (same_node q) (keys_of old))
+    by true e = is ∙ ap (λ r. nat_lt 1 (unwrap_or r 0)) (sym (same_found old node q o e there))
+    by false e = is_some-lookup (same_node q) old
+
+-- what is not there is as if it were taken out
+pub updated-absent : (node : NodeRef) (old : Uses) → found old node ≡ None → IsUpdated node None old old
+updated-absent node old absent q = by (same_node node q) refl
+  where
+    by : (test : Bool) → same_node node q ≡ test → found old q ≡ cond test None (found old q)
+    by true e = same_found old node q None e absent
+    by false e = refl
+
+-- what is left where one goes is used
+pub used-without : (node : NodeRef) (old new : Uses) → AreUsed old → IsUpdated node None old new → AreUsed new
+used-without node old new used updated q n there = by (same_node node q) (sym (updated q) ∙ there)
+  where
+    by : (test : Bool) → cond test None (found old q) ≡ Some n → 0 < n
+    by true e = absurd (true≢false (sym (ap is_some e)))
+    by false e = used q n e

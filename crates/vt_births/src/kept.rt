@@ -1,6 +1,7 @@
 //! Nodes that have lost their last name while they are in use: unlink(2) and rmdir(2).
 ghost use Rattle.std.specs.List.{list_any};
-ghost use Rattle.std.specs.Prelude.{◌≡◌, ◌+◌, ◌-◌, ◌<◌, ◌^◌, ◌↔◌, IsErr, OnErr, OnOk, if◌then◌else◌, nat_eq, nat_lt};
+ghost use Rattle.std.specs.Map.{keys_of};
+ghost use Rattle.std.specs.Prelude.{◌≡◌, ◌+◌, ◌-◌, ◌<◌, ◌^◌, ◌↔◌, IsErr, OnErr, OnOk, false, if◌then◌else◌, nat_eq, nat_lt};
 ghost use Rattle.vt_location.specs.SameNodes.{same_node};
 ghost use Rattle.vt_location.specs.declared.locations.NodeRef.{NodeRef as Node};
 
@@ -107,6 +108,7 @@ impl Kept {
     pub fn pin(&mut self, node: NodeRef) -> Result<(), AllocError>
         ensures ok { OnOk result ((other : Node) → uses_of self.new other
             ≡ (if same_node node other then one_more (uses_of self.old other) else uses_of self.old other)) }
+        ensures nodes { keys_of self.new.by_node ≡ keys_of self.old.by_node }
         ensures promised { self.new.promised ≡ self.old.promised }
         ensures limit { IsErr result ↔ (uses_of self.old node + 1 ≡ 2 ^ 64) }
         ensures err { OnErr result (self.new ≡ self.old) }
@@ -127,6 +129,10 @@ impl Kept {
         ensures last { result ≡ nat_eq (uses_of self.old node) 1 }
         ensures uses { (other : Node) → uses_of self.new other
             ≡ (if same_node node other then uses_of self.old other - 1 else uses_of self.old other) }
+        ensures kept { (other : Node) → is_kept self.new other
+            ≡ (if same_node node other then nat_lt 1 (uses_of self.old other) else is_kept self.old other) }
+        ensures nodes { nat_eq (uses_of self.old node) 1 ≡ false
+            → keys_of self.new.by_node ≡ keys_of self.old.by_node }
         ensures promised { self.new.promised ≡ self.old.promised }
     {
         let Some(uses) = self.by_node.get_mut(&node) else {

@@ -1,10 +1,11 @@
 //! What an overlay with an upper layer keeps of its nodes: copies, and what is in use without a name.
-ghost use Rattle.std.specs.Prelude.{◌≡◌, ◌&&◌, ◌+◌, ◌-◌, None, OnErr, OnOk, if◌then◌else◌, nat_eq, ℕ};
+ghost use Rattle.std.specs.Map.{keys_of};
+ghost use Rattle.std.specs.Prelude.{◌≡◌, ◌&&◌, ◌+◌, ◌-◌, None, OnErr, OnOk, false, if◌then◌else◌, nat_eq, nat_lt, ℕ};
 ghost use Rattle.vt_spec.specs.Lists.{holds_of};
 ghost use Rattle.vt_location.specs.SameNodes.{same_node};
 ghost use Rattle.vt_location.specs.declared.locations.NodeRef.{NodeRef as Node};
 ghost use Rattle.vt_births.specs.Births.{copy_of, no_births, node_of, slot_above};
-ghost use Rattle.vt_births.specs.Kept.{none_kept, uses_of};
+ghost use Rattle.vt_births.specs.Kept.{is_kept, none_kept, uses_of};
 ghost use Rattle.vt_births.specs.KeptObjects.{AreOf, has_kept_object};
 
 use crate::births::Births;
@@ -54,6 +55,11 @@ impl UpperNodes {
             ≡ (if nat_eq (uses_of self.old.kept node) 1 then slot_above self.old.births node else None) }
         ensures uses { (other : Node) → uses_of self.new.kept other
             ≡ (if same_node node other then uses_of self.old.kept other - 1 else uses_of self.old.kept other) }
+        ensures kept { (other : Node) → is_kept self.new.kept other
+            ≡ (if same_node node other then nat_lt 1 (uses_of self.old.kept other) else is_kept self.old.kept other) }
+        ensures still_kept { nat_eq (uses_of self.old.kept node) 1 ≡ false
+            → keys_of self.new.kept.by_node ≡ keys_of self.old.kept.by_node }
+        ensures still_born { nat_eq (uses_of self.old.kept node) 1 ≡ false → self.new.births ≡ self.old.births }
         ensures nodes { (other : ℕ) → node_of self.new.births other
             ≡ (if nat_eq (uses_of self.old.kept node) 1
             && holds_of (λ slot. nat_eq slot other) (copy_of self.old.births node) then None
