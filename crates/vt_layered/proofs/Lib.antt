@@ -2,3 +2,5 @@ pub mod ObjectsLayered
 pub mod Parts
 pub mod Staying
 pub mod StayingKinds
+pub mod LocationsCounted
+pub mod UsesUnseen
