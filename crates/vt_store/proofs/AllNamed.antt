@@ -1,10 +1,10 @@
 -- All inodes of a plain filesystem have names, if those in all its slots have.
-use Rattle.std.proofs.Common.{Bool, None, Option, Some, ap, arith, eqb-true, false, is_some, nat_eq, ne_eqb, not, option_map, refl, subst, sym, true, true≢false, ℕ, ◌<◌, ◌≤◌, ◌||◌, ◌&&◌, ◌∙◌, ◌≡◌, ⊎_elim, unwrap_or, nat_lt, ltb-true, ltb-false}
-use Rattle.vt_spec.proofs.Common.{Among, Node, among_from_list_all, among_numbers, found_passes, is_among, is_among_numbers, list_all, list_all_from_among, named_in, none_is_some, same_Some}
+use Rattle.std.proofs.Common.{Bool, None, Option, Some, ap, arith, false, is_some, nat_eq, ne_eqb, not, option_map, refl, subst, sym, true, true≢false, ℕ, ◌<◌, ◌≤◌, ◌||◌, ◌∙◌, ◌≡◌, unwrap_or, nat_lt, ltb-true, ltb-false}
+use Rattle.vt_spec.proofs.Common.{among_from_list_all, among_numbers, is_among, is_among_numbers, list_all_from_among, named_in, none_is_some, same_Some}
 use Rattle.vt_spec.specs.Inodes.{Inode, node_in}
 use Rattle.vt_spec.specs.Machine.Sealed.{all_named}
 use Rattle.vt_fs.specs.FilesystemsValue.{FilesystemEntry, Filesystems, entry_of, files_at, files_seen, inodes_seen, no_entry, node_seen}
-use Rattle.vt_fs.specs.Trees.TreeValue.{TreeValue, inodes_of, tree_of}
+use Rattle.vt_fs.specs.Trees.TreeValue.{TreeValue, inodes_of}
 use Rattle.vt_fs.proofs.Numbers.{numbers_listed}
 use Rattle.vt_location.proofs.NumberLemmas.{counted_inode, exchanged_back, exchanged_slot}
 use Rattle.vt_location.specs.Numbers.{counted, exchanged, inode_number}

@@ -197,7 +197,7 @@ own_removed f es new own goes id one e = grind (arith, common_steps)
 
 -- and where one is changed, but for its number
 pub own_written : {S : Type 0} (f : ℕ) (m n : IndexMap FilesystemId KeptOverlay S) (x w : KeptOverlay)
-    → AreOwn m.entries → get_by (is_key f) m ≡ Some x → w.overlay ≡ x.overlay
+    → AreOwn m.entries → get_by (is_key f) m ≡ Some x → w.overlay.overlay.number ≡ x.overlay.overlay.number
     → WritesThrough key_eq (is_key f) m w n → AreOwn n.entries
 own_written f m n x w own there is through id one e =
     by (nat_eq f id.count) (eqb-true f id.count) (sym ((through.3 (ap is_some there)).0 id) ∙ e)

@@ -43,7 +43,7 @@ layers_changed f change keeps (entry ∷ rest) = λ i. by (nat_eq f entry.count)
 
 -- Where one goes, its layers go
 
-no_key : (k : FilesystemId) (kept : List (FilesystemId × KeptOverlay))
+pub no_key : (k : FilesystemId) (kept : List (FilesystemId × KeptOverlay))
     → AllByRecursion (λ other. same_by count_of k other ≡ false) (keys_of kept) → lookup (is_key k.count) kept ≡ None
 no_key k [] apart = refl
 no_key k (e ∷ kept) apart = ap (λ b. cond b (Some e.1) (lookup (is_key k.count) kept)) apart.0 ∙ no_key k kept apart.1
@@ -159,7 +159,7 @@ pub kept_written : {S : Type 0} (f : ℕ) (change : ℕ → ℕ) (m n : IndexMap
     → w ≡ record x { mounts = change x.mounts } → WritesThrough key_eq (is_key f) m w n
     → AreKept n.entries counts oldest
 kept_written f change m n x w counts oldest is there so through = record {
-  own = own_written f m n x w is.own there (ap (λ (one : KeptOverlay). one.overlay) so) through;
+  own = own_written f m n x w is.own there (ap (λ (one : KeptOverlay). one.overlay.overlay.number) so) through;
   older = λ q less. by q less (nat_eq f q.count) (eqb-true f q.count) (((through.3 (ap is_some there)).0 q));
   layers = subst (λ layers. AreCounted layers counts)
       (sym (ap all_layers (writes f (λ one. record one { mounts = change one.mounts })

@@ -1,5 +1,5 @@
 -- The layers of an overlay, and its work directory behind them.
-use Rattle.std.proofs.Common.{◌≡◌, ◌∙◌, ◌+◌, ◌++◌, ◌∷◌, [], ap, arith, get_or, length, List, None, option_map, Option, refl, Some, subst, suc, sym, take, ℕ}
+use Rattle.std.proofs.Common.{◌≡◌, ◌∙◌, ◌++◌, ◌∷◌, [], ap, arith, get_or, length, List, None, option_map, Option, refl, Some, subst, suc, sym, take, ℕ}
 use Rattle.vt_spec.proofs.Common.{all_from_among, among-append_left, among_from_all, folded, folded-snoc, none_is_some, same_Some}
 use Rattle.vt_fs.specs.FilesystemsValue.{Shown}
 use Rattle.vt_overlay.specs.declared.merge.layers.LayerRef.{LayerRef}

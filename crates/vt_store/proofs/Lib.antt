@@ -20,3 +20,5 @@ pub mod NamedEach
 pub mod AllNamed
 pub mod LayersWithWork
 pub mod KeptObjects
+pub mod NodesKept
+pub mod StorePinned

@@ -1,5 +1,5 @@
 -- What is asked of the overlay of each number is asked of each overlay.
-use Rattle.std.proofs.Common.{◌≡◌, ℕ, Bool, List, map, nat_eq, option_map, refl, sym, ap, ◌∙◌}
+use Rattle.std.proofs.Common.{◌≡◌, ℕ, Bool, List, map, sym, ap, ◌∙◌}
 use Rattle.vt_spec.proofs.Common.{holds_of, keys_of, list_any, lookup}
 use Rattle.std.specs.List.{IsDistinct}
 use Rattle.vt_location.specs.declared.numbers.FilesystemId.{FilesystemId}

@@ -5,6 +5,7 @@ pub mod LayersAt
 pub mod OverlaysValue
 pub mod StoreValue
 pub mod Counts
+pub mod Pins
 pub mod LayersHeld
 pub mod Lends
 pub mod Locks

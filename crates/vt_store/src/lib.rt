@@ -11,6 +11,7 @@ mod looking;
 mod naming;
 mod overlays;
 mod paths;
+mod pinning;
 mod store;
 mod tally;
 

@@ -1,5 +1,5 @@
 //! `Overlays`: the overlays by their numbers, how many mounts show each, and where their layers are.
-ghost use Rattle.std.specs.Prelude.{◌≡◌, ◌<◌, ◌+◌, ◌-◌, ◌++◌, ◌∷◌, ◌↔◌, [], IfSome, OnErr, OnOk, nat_eq, nat_lt, option_copied, option_map, true};
+ghost use Rattle.std.specs.Prelude.{◌≡◌, ◌<◌, ◌+◌, ◌-◌, ◌^◌, ◌++◌, ◌∷◌, ◌↔◌, [], IfSome, IsErr, OnErr, OnOk, nat_eq, nat_lt, option_copied, option_map, true};
 ghost use Rattle.std.specs.List.{list_all, list_any};
 ghost use Rattle.std.specs.Map.{lookup};
 ghost use Rattle.vt_location.specs.Numbers.{most_counted};
@@ -8,6 +8,7 @@ ghost use Rattle.vt_fs.specs.FilesystemsValue.{files_at};
 ghost use Rattle.vt_fs.specs.Laws.{ParentsAreNamed};
 ghost use Rattle.vt_spec.specs.Lists.{holds_of};
 ghost use Rattle.vt_layered.specs.LayeredValue.{KeepsItsOwn};
+ghost use Rattle.vt_layered.specs.Pins.{IsPinned, IsUnpinned};
 ghost use Rattle.vt_store.specs.Numbered.{AreNotOlder};
 
 use crate::layer_counts::LayerCounts;
@@ -17,7 +18,7 @@ use std::marker::Model;
 use vt_cred::Cred;
 use vt_fs::Filesystems;
 use vt_layered::Layered;
-use vt_location::{FilesystemId, InodeRef};
+use vt_location::{FilesystemId, InodeRef, NodeRef};
 use vt_overlay::{LayerRef, Overlay};
 
 // An overlay, and how many mounts show it.
@@ -84,6 +85,7 @@ impl Overlays {
     ghost use Rattle.vt_store.specs.Named.{NameEach, NameEntries};
     ghost use Rattle.vt_store.specs.Locks.{directory_lies_in_overlay, keeps_in, overlay_stands_in};
     ghost use Rattle.vt_store.specs.OverlaysValue.{entry_kept, layered_of, with_overlay_changed, without_overlay};
+    ghost use Rattle.vt_store.specs.Pins.{ChangesOverlay, kept_let_go, uses_kept};
 
     /// No overlays. It does not allocate.
     pub fn new(alloc: Global) -> Self
@@ -185,6 +187,32 @@ impl Overlays {
     {
         if let Some(found) = self.by_number.get_mut(&id) {
             found.mounts = found.mounts.saturating_sub(1);
+        }
+    }
+
+    /// Counts one use more of a node of its overlay, if it is kept without a name there. It does not allocate.
+    ///
+    /// An error says that it has 2^64 - 1 uses.
+    pub fn pin(&mut self, node: NodeRef) -> Result<(), AllocError>
+        ensures ok { OnOk result (ChangesOverlay (IsPinned node) node.filesystem.count self.old self.new) }
+        ensures limit { IsErr result ↔ (uses_kept node (layered_of self.old node.filesystem.count) + 1 ≡ 2 ^ 64) }
+        ensures err { OnErr result (self.new ≡ self.old) }
+    {
+        match self.by_number.get_mut(&node.filesystem) {
+            Some(found) => found.overlay.pin(node),
+            None => Ok(()),
+        }
+    }
+
+    /// Takes back one use of a node of its overlay, if it is kept without a name there. It gives the inode that is to be let
+    /// go with the last use. It does not allocate.
+    pub fn unpin(&mut self, node: NodeRef) -> Option<InodeRef>
+        ensures object { result ≡ kept_let_go node (layered_of self.old node.filesystem.count) }
+        ensures unpinned { ChangesOverlay (IsUnpinned node) node.filesystem.count self.old self.new }
+    {
+        match self.by_number.get_mut(&node.filesystem) {
+            Some(found) => found.overlay.unpin(node),
+            None => None,
         }
     }
 
