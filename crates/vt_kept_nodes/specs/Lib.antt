@@ -1,0 +1,4 @@
+pub mod Forgetting
+pub mod Looked
+pub mod Counted
+pub mod Left

@@ -1,0 +1,7 @@
+-- What the proofs of src/leaving.rt use.
+pub mod Alike
+pub mod LayersAlong
+pub mod PathsBorn
+pub mod NodesLeft
+pub mod Shown
+pub mod ReadOnly
