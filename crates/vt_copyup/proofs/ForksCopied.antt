@@ -71,7 +71,7 @@ is_front (name ∷ front) (word ∷ path) = by (bytes_eq name word) refl (is_fro
 
 module _ (fresh : Fresh ℕ) (stack : Stack ℕ) (files : FileTree ℕ) where
   -- the first name of what is planned leads nowhere,
-  ends_by : (front : List (List ℕ)) (copies : List Copy) → ArePlanned fresh stack files front copies
+  pub ends_by : (front : List (List ℕ)) (copies : List Copy) → ArePlanned fresh stack files front copies
       → EndsAt files.tree stack.directory front (names copies)
   ends_by front [] planned = tt
   ends_by front (copy ∷ copies) planned = planned.0

@@ -16,6 +16,7 @@ use Rattle.vt_fs.specs.FilesystemsValue.{Filesystems, files_at, inodes_at, inode
 use Rattle.vt_births.specs.Births.{BirthsValue, copy_of, is_born_below}
 use Rattle.vt_laws_worlds.specs.Merging.UpperChanges.{copy_node}
 use Rattle.vt_laws_worlds.specs.Seen.CopySteps.{Copy}
+use Rattle.vt_copyup.specs.ForkLaws.{Elsewhere, ForksAreReady, NoneOf}
 use Rattle.vt_copyup.specs.Forks.{HeadsDiffer, IsForkOf, IsForkReady, all_in, branch_at, pieces_in, start_in}
 use Rattle.vt_copyup.specs.Made.{AreMade, Made, last_made, made_copies, made_copy, slots_with, with_copies}
 use Rattle.vt_copyup.specs.Planned.{names_of}
@@ -26,7 +27,7 @@ use Rattle.vt_copyup.specs.declared.plans.Plan.{Plan}
 use Rattle.vt_copyup.specs.declared.plans.PlannedCopy.{PlannedCopy}
 use Rattle.vt_copyup.proofs.Changed.{inodes_after, is_there}
 use Rattle.vt_copyup.proofs.Grown.{IsBeside, beside, not_eq, one_made}
-use Rattle.vt_copyup.proofs.Parted.{Elsewhere, NoneOf, all_back, all_front, apart_back, apart_front, elsewhere_apart, elsewhere_first, elsewhere_last, nested_back, nested_front}
+use Rattle.vt_copyup.proofs.Parted.{all_back, all_front, apart_back, apart_front, elsewhere_apart, elsewhere_first, elsewhere_last, nested_back, nested_front}
 use Rattle.vt_copyup.proofs.Stepping.{directory-copy, entries-copy, last_filesystem}
 
 -- The births of copies
@@ -554,3 +555,9 @@ module _ (first second : Plan) (trees : Filesystems) (births : BirthsValue) (roo
               two two_births object made entries_two there_two;
         };
       })
+
+pub forks_are_ready : ForksAreReady
+forks_are_ready first second trees births room other_room ready next_ready one_filesystem fork is inodes more elsewhere
+    some_first =
+    fork_ready first second trees births room other_room ready next_ready one_filesystem fork is inodes more elsewhere
+    some_first

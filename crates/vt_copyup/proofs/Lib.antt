@@ -1,8 +1,10 @@
 pub mod Changed
 pub mod Copies
+pub mod ForksApart
 pub mod ForksCopied
 pub mod ForksMade
 pub mod ForksReady
+pub mod GivenBack
 pub mod Grown
 pub mod Making
 pub mod Next

@@ -1,13 +1,14 @@
 -- The number that the next inode gets.
-use Rattle.std.proofs.Common.{◌≡◌, ◌∙◌, ◌<◌, ap, arith, Bool, false, IfSome, inl, inr, is_some, IsSome, None, option_map, Option, refl, Some, subst, sym, true, true≢false, unwrap_or, ℕ, nat_eq}
+use Rattle.std.proofs.Common.{◌≡◌, ◌∙◌, ◌∷◌, ◌<◌, ◌≤◌, ◌+◌, ◌-◌, ap, arith, Bool, false, IfSome, inl, inr, is_some, IsSome, length, List, None, option_map, Option, refl, Some, subst, sym, true, true≢false, unwrap_or, ℕ, nat_eq}
 use Rattle.vt_spec.proofs.Common.{Content, Node, has_entry_to, node_in, none_is_some, same_Some}
 use Rattle.vt_spec.specs.Laws.Trees.{IsNewIn}
 use Rattle.vt_spec.specs.Tree.Content.{Directory, Regular, Symlink, Whiteout}
 use Rattle.vt_location.specs.declared.births.Birth.TheVariants.{Here}
+use Rattle.vt_location.specs.declared.locations.InodeRef.{InodeRef}
 use Rattle.vt_location.specs.declared.locations.NodeRef.{NodeRef}
 use Rattle.vt_location.specs.declared.numbers.FilesystemId.{FilesystemId}
 use Rattle.vt_location.specs.Births.{born_in}
-use Rattle.vt_location.specs.Locations.{number_of}
+use Rattle.vt_location.specs.Locations.{inode_of, number_of}
 use Rattle.vt_location.specs.Numbers.{exchanged, inode_number}
 use Rattle.vt_location.proofs.NumberLemmas.{exchanged_same, exchanged_slot}
 use Rattle.vt_fs.proofs.Standing.{count_found}
@@ -15,6 +16,7 @@ use Rattle.vt_fs.specs.FilesystemsValue.{FilesystemEntry, Filesystems, entry_at,
 use Rattle.vt_laws_worlds.specs.Merging.UpperChanges.{copy_node}
 use Rattle.vt_births.specs.Births.{BirthsValue, node_of}
 use Rattle.vt_copyup.specs.Plans.{CopiesAreThere, EntriesAreThere}
+use Rattle.vt_copyup.specs.declared.plans.Piece.{Piece}
 
 -- what is vacant is the copy of nothing
 pub no_birth_there : (trees : Filesystems) (count : ℕ) (births : BirthsValue) → CopiesAreThere trees count births
@@ -24,6 +26,21 @@ no_birth_there trees count births there slot vacant = by (node_of births slot) r
     by : (n : Option NodeRef) → node_of births slot ≡ n → node_of births slot ≡ None
     by None e = e
     by (Some node) e = absurd (true≢false (sym (there slot node e) ∙ ap is_some vacant))
+
+-- so is what was made, where it was vacant
+pub no_birth_in : (trees : Filesystems) (directory : InodeRef) (births : BirthsValue)
+    → CopiesAreThere trees directory.filesystem.count births → (made : InodeRef)
+    → made.filesystem ≡ directory.filesystem
+    → (files_at trees directory.filesystem.count).tree.node (inode_of made) ≡ None → node_of births made.slot ≡ None
+no_birth_in trees directory births there made own vacant =
+    no_birth_there trees directory.filesystem.count births there made.slot
+    (subst (λ (id : FilesystemId). (files_at trees directory.filesystem.count).tree.node (inode_number id.count made.slot)
+    ≡ None) own vacant)
+
+-- with a birth more one promise less is left
+pub one_left : (births : BirthsValue) (piece : Piece) (rest : List Piece) (after : ℕ)
+    → length (piece ∷ rest) ≤ births.promised → after ≡ births.promised - 1 → after + 1 ≡ births.promised
+one_left births piece rest after few less = omega (arith, few, less)
 
 module _ (trees : Filesystems) (f : FilesystemId) (o : Option NodeRef) (next : NodeRef) (is : o ≡ Some next)
     (number : option_map number_of o ≡ option_map next_seen (entry_of trees f.count))

@@ -2,8 +2,6 @@
 use Rattle.std.proofs.Common.{All, ◌≡◌, ◌≢◌, ◌∙◌, ◌⊎◌, ◌∷◌, ◌++◌, [], ⊎_elim, append-nil, append_assoc, ap, Bool, false, inl, inr, List, None, refl, Some, subst, sym, true, ℕ}
 use Rattle.std.specs.Prelude.{⊤}
 use Rattle.vt_spec.proofs.Common.{All-cons, All-head, All-nil, All-tail, Tree, led, none_is_some}
-use Rattle.vt_spec.specs.Rights.{is_directory}
-use Rattle.vt_spec.specs.Tree.{kind_of}
 use Rattle.vt_location.specs.declared.locations.NodeRef.{NodeRef}
 use Rattle.vt_location.specs.declared.numbers.FilesystemId.{FilesystemId}
 use Rattle.vt_location.specs.SameNodes.{same_node}
@@ -11,6 +9,7 @@ use Rattle.vt_fs.specs.FilesystemsValue.{Filesystems}
 use Rattle.vt_overlay.specs.declared.merge.layers.LayerRef.{LayerRef}
 use Rattle.vt_overlay.specs.MergedTree.{AreLayers}
 use Rattle.vt_births.proofs.Nodes.{same_node-is}
+use Rattle.vt_copyup.specs.ForkLaws.{AreDirectories, Elsewhere, NoneOf}
 use Rattle.vt_copyup.specs.Forks.{HeadsDiffer}
 use Rattle.vt_copyup.specs.Planned.{AreCopiesFrom, IsCopyIn, names_of}
 use Rattle.vt_copyup.specs.Plans.{AreApart, AreNested, copies_of}
@@ -154,15 +153,6 @@ pub apart_back : (xs ys : List Piece) → AreApart (xs ++ ys) → AreApart ys
 apart_back [] ys apart = apart
 apart_back (x ∷ xs) ys apart = apart_back xs ys apart.1
 
--- none of these copies is that of a node, or of any of these
-abbrev pub NoneOf : List PlannedCopy → NodeRef → Type 0
-NoneOf [] node = ⊤
-NoneOf (copy ∷ copies) node = (same_node copy.born node ≡ false) × NoneOf copies node
-
-abbrev pub Elsewhere : List PlannedCopy → List Piece → Type 0
-Elsewhere copies [] = ⊤
-Elsewhere copies (piece ∷ pieces) = NoneOf copies piece.copy.born × Elsewhere copies pieces
-
 pub elsewhere_none : (pieces : List Piece) → Elsewhere [] pieces
 elsewhere_none [] = tt
 elsewhere_none (piece ∷ pieces) = (tt, elsewhere_none pieces)
@@ -209,11 +199,6 @@ elsewhere_last xs ys (piece ∷ pieces) all =
     (none_back xs ys piece.copy.born all.0, elsewhere_last xs ys pieces all.1)
 
 -- Copies at different paths, of which those of the one are directories, are of different nodes.
-abbrev pub AreDirectories : List Piece → Type 0
-AreDirectories [] = ⊤
-AreDirectories (piece ∷ pieces) =
-    (is_directory (kind_of piece.copy.node.content) ≡ true) × AreDirectories pieces
-
 module _ (trees : Filesystems) (layers : List LayerRef) (overlay : FilesystemId) where
   pub copies_back : (w : Bool) (front : List (List ℕ)) (xs ys : List Piece)
       → AreCopiesFrom w trees layers overlay front (xs ++ ys)

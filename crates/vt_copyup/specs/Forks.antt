@@ -91,7 +91,11 @@ pub record AreForked (fork : Fork) (trees : Filesystems) (births : BirthsValue) 
   pub two : Filesystems
   pub two_births : BirthsValue
   pub shared : AreMade fork.directory (copies_of (pieces_in fork.shared)) trees births one one_births here
+  pub shared_entries : EntriesAreThere (files_at one here.filesystem.count).tree
+  pub shared_there : CopiesAreThere one here.filesystem.count one_births
   pub first : AreMade here (copies_of (pieces_in fork.first)) one one_births two two_births ends.object
+  pub first_entries : EntriesAreThere (files_at two ends.object.filesystem.count).tree
+  pub first_there : CopiesAreThere two ends.object.filesystem.count two_births
   pub parent : ends.parent ≡ parent_made here first.made
   pub second : AreMade (start_in fork here) (copies_of (pieces_in fork.second)) two two_births trees_after births_after
       ends.second

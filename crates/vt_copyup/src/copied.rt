@@ -25,6 +25,13 @@ pub struct CopiedNode {
     content: CopiedContent,
 }
 
+/// A name of a directory that is free.
+#[derive(Debug, Drop)]
+pub struct FreeName {
+    pub directory: InodeRef,
+    pub name: Vec<u8>,
+}
+
 // What is copied of a node's content.
 #[derive(Debug, Drop)]
 enum CopiedContent {
@@ -122,31 +129,30 @@ impl CopiedNode {
         }
     }
 
-    /// Makes it under a free name of a directory, for which an inode is promised and room is made. It gives the inode. It
-    /// does not allocate.
+    /// Makes it under a name, for which an inode is promised and room is made. It gives the inode. It does not allocate.
     pub fn make(
         self,
         alloc: Global,
         trees: &mut Filesystems,
-        directory: InodeRef,
-        name: Vec<u8>,
+        at: FreeName,
         room: &mut EntryRoom,
     ) -> InodeRef
-        requires directory { IsDirectory (files_at trees.old directory.filesystem.count).tree (inode_of directory) }
-        requires free { entry_at (files_at trees.old directory.filesystem.count).tree (inode_of directory) name.items
-            ≡ None }
-        requires entries { EntriesAreThere (files_at trees.old directory.filesystem.count).tree }
-        requires promised { 0 < inodes_promised trees.old directory.filesystem.count }
+        requires directory { IsDirectory (files_at trees.old at.directory.filesystem.count).tree (inode_of at.directory) }
+        requires free { entry_at (files_at trees.old at.directory.filesystem.count).tree (inode_of at.directory)
+            at.name.items ≡ None }
+        requires entries { EntriesAreThere (files_at trees.old at.directory.filesystem.count).tree }
+        requires promised { 0 < inodes_promised trees.old at.directory.filesystem.count }
         requires room { length (entries_in
-            ((files_at trees.old directory.filesystem.count).tree.node (inode_of directory))) < room.old }
-        ensures made { ChangesInodes directory.filesystem.count (λ inodes. changed nat_eq inodes
-            (Make (inode_of directory) name.items (inode_of result) (copy_node (inode_of directory) self)))
+            ((files_at trees.old at.directory.filesystem.count).tree.node (inode_of at.directory))) < room.old }
+        ensures made { ChangesInodes at.directory.filesystem.count (λ inodes. changed nat_eq inodes
+            (Make (inode_of at.directory) at.name.items (inode_of result) (copy_node (inode_of at.directory) self)))
             trees.old trees.new }
-        ensures vacant { (files_at trees.old directory.filesystem.count).tree.node (inode_of result) ≡ None }
-        ensures filesystem { result.filesystem ≡ directory.filesystem }
-        ensures inodes_left { inodes_promised trees.new directory.filesystem.count + 1
-            ≡ inodes_promised trees.old directory.filesystem.count }
+        ensures vacant { (files_at trees.old at.directory.filesystem.count).tree.node (inode_of result) ≡ None }
+        ensures filesystem { result.filesystem ≡ at.directory.filesystem }
+        ensures inodes_left { inodes_promised trees.new at.directory.filesystem.count + 1
+            ≡ inodes_promised trees.old at.directory.filesystem.count }
     {
+        let FreeName { directory, name } = at;
         let next = trees.next_number(directory.filesystem).unwrap();
         let node = self.under(directory.node());
         trees.create_promised(alloc, directory.node_ref(), name, node, room);

@@ -1,15 +1,16 @@
 //! Copies for two objects of one call, as of link(2) and rename(2). Their paths may lack the same parents: these are copied
 //! once, and the copies of the second object begin in the last of them. The kernel's overlayfs document, "upper and lower"
 //! (copy_up).
-ghost use Rattle.std.specs.Prelude.{◌≡◌, ◌+◌, ◌<◌, ◌≤◌, IfOk, IfSome, Some, if◌then◌else◌, length, nat_eq, slice_get, true};
+ghost use Rattle.std.specs.Prelude.{◌≡◌, ◌+◌, ◌-◌, ◌<◌, ◌≤◌, IfOk, IfSome, Some, if◌then◌else◌, length, nat_eq, slice_get, true};
 ghost use Rattle.vt_spec.specs.Tree.{entries_in};
 ghost use Rattle.vt_location.specs.Locations.{inode_of};
-ghost use Rattle.vt_fs.specs.FilesystemsValue.{files_at};
+ghost use Rattle.vt_fs.specs.FilesystemsValue.{files_at, giving_back, with_changed};
 ghost use Rattle.vt_copyup.specs.Made.{AreMade, parent_made};
 ghost use Rattle.vt_copyup.specs.Planned.{names_of};
 ghost use Rattle.vt_copyup.specs.Plans.{CopiesAreThere, EntriesAreThere, IsReady, copies_of, in_turn, many};
 ghost use Rattle.vt_copyup.specs.Forks.{AreForked, AreShared, IsForkOf, IsForkReady, all_in, branch_at, pieces_in};
 
+use crate::planning::give_back;
 use crate::plans::{Grown, Piece, Plan};
 use std::alloc::{AllocError, Global};
 use vt_births::Births;
@@ -69,6 +70,17 @@ impl Branch {
         let plan = Plan { directory, pieces };
         plan.grow(alloc, trees, births, &mut room)
     }
+
+    // Gives back what was promised for the copies. It does not allocate.
+    fn give_back(self, trees: &mut Filesystems, births: &mut Births, upper: FilesystemId)
+        ensures trees { trees.new
+            ≡ with_changed upper.count (giving_back (length self.pieces.items)) trees.old }
+        ensures births { births.new
+            ≡ record births.old { promised = births.old.promised - length self.pieces.items } }
+    {
+        let many = self.pieces.len();
+        give_back(trees, births, upper, many, many);
+    }
 }
 
 /// Copies for two objects: those of the parents that both paths lack, then those of the first object, then those of the
@@ -85,7 +97,8 @@ pub struct Fork {
     second: Branch,
 }
 
-/// Where the copies for two objects have ended: the objects, and the inode in which the last copy of the first was made.
+/// Where the copies for two objects have ended: the objects, and the inode in which the last of the first one's own copies was
+/// made; where it has none of its own, the first object itself.
 #[derive(Clone, Copy, Debug)]
 pub struct Forked {
     pub parent: InodeRef,
@@ -145,6 +158,25 @@ impl Fork {
         ensures { result ≡ self.now.directory.filesystem }
     {
         self.directory.filesystem
+    }
+
+    /// Gives back what was promised for all copies: nothing is made. It does not allocate.
+    pub fn give_back(self, trees: &mut Filesystems, births: &mut Births)
+        ensures trees { trees.new
+            ≡ with_changed self.directory.filesystem.count (giving_back (all_in self)) trees.old }
+        ensures births { births.new ≡ record births.old { promised = births.old.promised - all_in self } }
+    {
+        let Fork {
+            directory,
+            other: _other,
+            shared,
+            first,
+            second,
+        } = self;
+        let upper = directory.filesystem;
+        shared.give_back(trees, births, upper);
+        first.give_back(trees, births, upper);
+        second.give_back(trees, births, upper);
     }
 
     /// Makes the copies, with their births. It does not allocate.

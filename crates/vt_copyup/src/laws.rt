@@ -1,5 +1,5 @@
 //! Laws of plans.
-ghost use Rattle.vt_copyup.specs.ForkLaws.{ForksMakeCopies};
+ghost use Rattle.vt_copyup.specs.ForkLaws.{CopiesArePlannedApart, ForksAreReady, ForksMakeCopies};
 ghost use Rattle.vt_copyup.specs.Laws.{PlansMakeCopies, PromisesAreGivenBack};
 
 /// What a plan makes is the definitions' copy of the path with its missing parents, if the copies have the numbers
@@ -20,4 +20,11 @@ pub fn promises_are_given_back()
 /// first object show the same.
 pub fn forks_make_copies()
     ensures { ForksMakeCopies }
+{}
+
+/// A fork of two plans that are ready is ready, once inodes and births are promised for all its copies (`ready`). The copies
+/// of a directory that its plan does not share with another one are of other nodes than those of that (`apart`).
+pub fn forks_are_ready()
+    ensures ready { ForksAreReady }
+    ensures apart { CopiesArePlannedApart }
 {}

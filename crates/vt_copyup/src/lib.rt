@@ -9,9 +9,9 @@ mod planning;
 mod plans;
 mod unnamed;
 
-pub use copied::CopiedNode;
+pub use copied::{CopiedNode, FreeName};
 pub use forks::{Fork, Forked};
-pub use laws::{forks_make_copies, plans_make_copies, promises_are_given_back};
-pub use planning::{give_back, plan, promise};
+pub use laws::{forks_are_ready, forks_make_copies, plans_make_copies, promises_are_given_back};
+pub use planning::{Source, give_back, plan, promise};
 pub use plans::{Plan, PlannedCopy};
-pub use unnamed::{UnnamedPlan, plan_unnamed};
+pub use unnamed::{LowerObject, UnnamedPlan, plan_unnamed};

@@ -25,43 +25,44 @@ use vt_location::{Birth, FilesystemId, InodeRef, NodeRef};
 use vt_node::{EntryRoom, Node, copied_bytes};
 use vt_overlay::{LayerEntry, LayerRef, MergedDirectory, Way, entry_in, first_entry, slot_of};
 
+/// The overlay from which is copied: its layers, the upper one first, and whether files are copied with their bytes.
+#[derive(Clone, Copy)]
+pub struct Source<'a> {
+    pub trees: &'a Filesystems,
+    pub layers: &'a [LayerRef],
+    pub overlay: FilesystemId,
+    pub with_bytes: bool,
+}
+
 /// Plans the copies of the object at a path and of its missing parents. It allocates all that they own, so that they can
 /// be made where nothing may fail, once their inodes and births are promised (`promise`). Nothing changes.
 ///
-/// The layers of the overlay are given with the upper one first. A file that is to be written whole is copied without its
-/// bytes. `room` is kept from plan to plan, so that a plan in a large directory mostly finds the room that an earlier one
-/// made. It fails only if an allocation does.
+/// A file that is to be written whole is copied without its bytes. `room` is kept from plan to plan, so that a plan in a large
+/// directory mostly finds the room that an earlier one made. It fails only if an allocation does.
 pub fn plan<W: Way>(
     alloc: Global,
-    trees: &Filesystems,
+    source: Source<'_>,
     room: &mut EntryRoom,
-    layers: &[LayerRef],
-    overlay: FilesystemId,
     path: &W,
-    with_bytes: bool,
 ) -> Result<Plan, AllocError>
-    requires layers { AreLayers trees.now layers.now }
-    requires upper { 0 < length layers.now }
-    requires few { length layers.now ≤ MOST_LAYERS }
-    requires shown { IsSome (shown (layers_of trees.now layers.now) (W.names path.now)) }
-    ensures planned { (upper : Layer) (lowers : List Layer) → layers.now ≡ upper ∷ lowers
-        → IfOk result (λ plan. IsPlanOf with_bytes trees.now upper lowers overlay (W.names path.now) plan) }
-    ensures ready { (births : BirthsValue) (inodes more : ℕ) → AreBirthsOf trees.now layers.now overlay births
+    requires layers { AreLayers source.trees.now source.layers.now }
+    requires upper { 0 < length source.layers.now }
+    requires few { length source.layers.now ≤ MOST_LAYERS }
+    requires shown { IsSome (shown (layers_of source.trees.now source.layers.now) (W.names path.now)) }
+    ensures planned { (upper : Layer) (lowers : List Layer) → source.entry.layers.now ≡ upper ∷ lowers
+        → IfOk result (λ plan. IsPlanOf source.entry.with_bytes source.entry.trees.now upper lowers source.entry.overlay
+        (W.names path.now) plan) }
+    ensures ready { (births : BirthsValue) (inodes more : ℕ)
+        → AreBirthsOf source.entry.trees.now source.entry.layers.now source.entry.overlay births
         → IfOk result (λ plan. many plan ≤ inodes → many plan ≤ more → IsReady plan
-        (with_changed plan.directory.filesystem.count (promising inodes) trees.now)
+        (with_changed plan.directory.filesystem.count (promising inodes) source.entry.trees.now)
         (record births { promised = births.promised + more }) room.new) }
     ensures room { room.old ≤ room.new }
 {
-    let upper = upper_of(layers);
-    let led = led_above(trees, upper.directory, path);
-    let source = Source {
-        trees,
-        layers,
-        overlay,
-        with_bytes,
-    };
+    let upper = upper_of(source.layers);
+    let led = led_above(source.trees, upper.directory, path);
     let pieces = pieces_from(alloc, source, path, led.names)?;
-    room_for_first(trees, led.inode, pieces.len(), room)?;
+    room_for_first(source.trees, led.inode, pieces.len(), room)?;
     Ok(Plan {
         directory: led.inode,
         pieces,
@@ -165,15 +166,6 @@ fn led_above<W: Way>(trees: &Filesystems, directory: InodeRef, path: &W) -> Led
         names: path.len(),
         inode: here,
     }
-}
-
-// The overlay from which is copied: its layers, the upper one first, and whether files are copied with their bytes.
-#[derive(Clone, Copy)]
-struct Source<'a> {
-    trees: &'a Filesystems,
-    layers: &'a [LayerRef],
-    overlay: FilesystemId,
-    with_bytes: bool,
 }
 
 // The copies of what is shown at each prefix of a path that is longer than this one, the longest first.

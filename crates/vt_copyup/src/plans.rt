@@ -1,17 +1,14 @@
 //! Copies that are planned, and how they are made: the kernel's overlayfs document, "upper and lower" (copy_up).
-ghost use Rattle.std.specs.Prelude.{◌≡◌, ◌+◌, ◌<◌, [], None, Some, if◌then◌else◌, nat_eq, true, ℕ};
+ghost use Rattle.std.specs.Prelude.{◌≡◌, ◌+◌, ◌<◌, [], None, nat_eq};
 ghost use Rattle.vt_spec.specs.Inodes.{changed};
 ghost use Rattle.vt_spec.specs.Language.Changes.Change.{Make};
 ghost use Rattle.vt_location.specs.Locations.{inode_of};
-ghost use Rattle.vt_location.specs.SameNodes.{same_node};
-ghost use Rattle.vt_location.specs.declared.locations.NodeRef.{NodeRef as Node};
 ghost use Rattle.vt_fs.specs.FilesystemsValue.{ChangesInodes, files_at, inodes_promised};
 ghost use Rattle.vt_laws_worlds.specs.Merging.UpperChanges.{copy_node};
-ghost use Rattle.vt_births.specs.Births.{copy_of, is_born_below, node_of};
 ghost use Rattle.vt_copyup.specs.Made.{AreMade, parent_made};
 ghost use Rattle.vt_copyup.specs.Plans.{CopiesAreThere, EntriesAreThere, Fits, IsReady, copies_of, in_turn, many};
 
-use crate::copied::CopiedNode;
+use crate::copied::{CopiedNode, FreeName};
 use std::alloc::Global;
 use vt_births::Births;
 use vt_fs::Filesystems;
@@ -130,11 +127,15 @@ impl Plan {
                 object: directory,
             };
         };
-        let mut here = first.copy.make(alloc, trees, births, directory, room);
+        let first_born = first.copy.born;
+        let mut here = first.copy.make(alloc, trees, directory, room);
+        births.add(first_born, here.slot);
         while let Some(piece) = pieces.pop() {
             let Piece { copy, mut room } = piece;
+            let born = copy.born;
             parent = here;
-            here = copy.make(alloc, trees, births, here, &mut room);
+            here = copy.make(alloc, trees, here, &mut room);
+            births.add(born, here.slot);
         }
         Grown {
             parent,
@@ -149,33 +150,25 @@ impl PlannedCopy {
         self,
         alloc: Global,
         trees: &mut Filesystems,
-        births: &mut Births,
         directory: InodeRef,
         room: &mut EntryRoom,
     ) -> InodeRef
         requires fits { Fits self room.old directory trees.old }
         requires entries { EntriesAreThere (files_at trees.old directory.filesystem.count).tree }
-        requires there { CopiesAreThere trees.old directory.filesystem.count births.old }
         requires inode { 0 < inodes_promised trees.old directory.filesystem.count }
-        requires birth { 0 < births.old.promised }
-        requires below { is_born_below self.born ≡ true }
-        requires new { copy_of births.old self.born ≡ None }
         ensures made { ChangesInodes directory.filesystem.count (λ inodes. changed nat_eq inodes
             (Make (inode_of directory) self.name.items (inode_of result) (copy_node (inode_of directory) self.node)))
             trees.old trees.new }
         ensures vacant { (files_at trees.old directory.filesystem.count).tree.node (inode_of result) ≡ None }
         ensures filesystem { result.filesystem ≡ directory.filesystem }
-        ensures nodes { (slot : ℕ) → node_of births.new slot
-            ≡ (if nat_eq result.slot slot then Some self.born else node_of births.old slot) }
-        ensures slots { (node : Node) → copy_of births.new node
-            ≡ (if same_node self.born node then Some result.slot else copy_of births.old node) }
         ensures inodes_left { inodes_promised trees.new directory.filesystem.count + 1
             ≡ inodes_promised trees.old directory.filesystem.count }
-        ensures births_left { births.new.promised + 1 ≡ births.old.promised }
     {
-        let PlannedCopy { name, node, born } = self;
-        let object = node.make(alloc, trees, directory, name, room);
-        births.add(born, object.slot);
-        object
+        let PlannedCopy {
+            name,
+            node,
+            born: _born,
+        } = self;
+        node.make(alloc, trees, FreeName { directory, name }, room)
     }
 }

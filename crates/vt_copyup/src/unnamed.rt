@@ -27,28 +27,38 @@ pub struct UnnamedPlan {
     born: NodeRef,
 }
 
+/// An object of a lower layer, and the node that was born there.
+#[derive(Clone, Copy, Debug)]
+pub struct LowerObject {
+    pub inode: InodeRef,
+    pub born: NodeRef,
+}
+
 /// Plans the copy of an object of a lower layer that has no name, with all the memory that it owns. A file that is to be
 /// written whole is copied without its bytes. Nothing changes.
 pub fn plan_unnamed(
     alloc: Global,
     trees: &Filesystems,
     upper: FilesystemId,
-    object: InodeRef,
-    born: NodeRef,
+    object: LowerObject,
     with_bytes: bool,
 ) -> Result<UnnamedPlan, AllocError>
-    requires { is_some ((files_at trees.now object.filesystem.count).tree.node (inode_of object)) ≡ true }
+    requires { is_some ((files_at trees.now object.inode.filesystem.count).tree.node (inode_of object.inode)) ≡ true }
     ensures node { (node : Inode ℕ)
-        → (files_at trees.now object.filesystem.count).tree.node (inode_of object) ≡ Some node
+        → (files_at trees.now object.inode.filesystem.count).tree.node (inode_of object.inode) ≡ Some node
         → IfOk result (λ plan. plan.node ≡ copied with_bytes node) }
     ensures upper { IfOk result (λ plan. plan.upper ≡ upper) }
-    ensures born { IfOk result (λ plan. plan.born ≡ born) }
+    ensures born { IfOk result (λ plan. plan.born ≡ object.born) }
 {
-    let Some(found) = trees.node(object.node_ref()) else {
+    let Some(found) = trees.node(object.inode.node_ref()) else {
         unreachable!();
     };
     let node = CopiedNode::of(alloc, found, with_bytes)?;
-    Ok(UnnamedPlan { upper, node, born })
+    Ok(UnnamedPlan {
+        upper,
+        node,
+        born: object.born,
+    })
 }
 
 impl UnnamedPlan {

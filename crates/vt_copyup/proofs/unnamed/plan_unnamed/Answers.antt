@@ -10,7 +10,7 @@ use Rattle.vt_copyup.proofs.unnamed.plan_unnamed.Goals as goal
 pub unreachable-requires : goal.unreachable-requires
 unreachable-requires c =
     let trees = c.args.trees.now in
-    let none : (files_at trees c.args.object.filesystem.count).tree.node (inode_of c.args.object) ≡ None =
+    let none : (files_at trees c.args.object.inode.filesystem.count).tree.node (inode_of c.args.object.inode) ≡ None =
     sym (ap (λ (n : NodeRef). (files_at trees n.filesystem.count).tree.node (number_of n)) c.node_ref.ensures.value)
     ∙ sym c.node.ensures
     ∙ ap (λ o. option_map (node_seen c.node_ref.result.filesystem.count) (option_copied o)) c.in_default.is in
@@ -19,9 +19,9 @@ unreachable-requires c =
 pub returns-clause-node : goal.returns-clause-node
 returns-clause-node c = λ node at.
     let trees = c.args.trees.now in
-    let f = c.args.object.filesystem.count in
+    let f = c.args.object.inode.filesystem.count in
     let found = c.in-Some.found.now in
-    let is : Some (node_seen f found) ≡ (files_at trees f).tree.node (inode_of c.args.object) =
+    let is : Some (node_seen f found) ≡ (files_at trees f).tree.node (inode_of c.args.object.inode) =
     ap (λ (n : NodeRef). Some (node_seen n.filesystem.count found)) (sym c.node_ref.ensures.value)
     ∙ sym (ap (λ o. option_map (node_seen c.node_ref.result.filesystem.count) (option_copied o)) c.in-Some.is)
     ∙ c.node.ensures

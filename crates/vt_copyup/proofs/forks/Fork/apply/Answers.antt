@@ -37,7 +37,11 @@ returns c =
       two = c.grow-grown.new.trees;
       two_births = c.grow-grown.new.births;
       shared = c.grow-common.ensures.made.0;
+      shared_entries = c.grow-common.ensures.entries;
+      shared_there = c.grow-common.ensures.there;
       first = c.grow-grown.ensures.made.0;
+      first_entries = c.grow-grown.ensures.entries;
+      first_there = c.grow-grown.ensures.there;
       parent = c.grow-grown.ensures.made.1;
       second = subst (λ (start : InodeRef). AreMade start (copies_of (pieces_in c.args.self.second))
           c.grow-grown.new.trees c.grow-grown.new.births c.grow-last.new.trees c.grow-last.new.births
