@@ -9,11 +9,16 @@ pub mod FreedTrees
 pub mod GivenBack
 pub mod KeptDone
 pub mod KeptMade
+pub mod KeptObjects
 pub mod KeptPlaces
 pub mod KeptReady
 pub mod LastMade
+pub mod LastNames
+pub mod LosersHeld
 pub mod LowersShown
+pub mod NamedUnkept
 pub mod NamesFreed
+pub mod NamesLeft
 pub mod NamesListed
 pub mod NewMade
 pub mod PlacesFound
@@ -25,3 +30,5 @@ pub mod RowsAlike
 pub mod RowsEmptied
 pub mod RowsMade
 pub mod RowsReplaced
+pub mod SecondNames
+pub mod UnnamedHeld

@@ -4,9 +4,11 @@ pub mod Copies
 pub mod CopyLaws
 pub mod KeptChanges
 pub mod KeptLaws
+pub mod LastName
 pub mod Laws
 pub mod Leaving
 pub mod Losing
+pub mod LosingLaws
 pub mod New
 pub mod NewLaws
 pub mod RemovalLaws

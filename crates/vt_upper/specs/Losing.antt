@@ -1,15 +1,19 @@
 -- Nodes that lose their last name: unlink(2), rmdir(2). A node is kept while something is on it, else its birth ends with it.
-use Rattle.std.specs.Prelude.{Bool, None, false, if◌then◌else◌, nat_eq, nat_lt, true, ℕ, ⊤, ◌-◌, ◌<◌, ◌≡◌}
+use Rattle.std.specs.Prelude.{Bool, List, None, false, if◌then◌else◌, nat_eq, nat_lt, true, ℕ, ⊤, ◌-◌, ◌<◌, ◌≡◌}
 use Rattle.vt_spec.specs.Lists.{holds_of}
 use Rattle.vt_births.specs.Births.{BirthsValue, copy_of, node_of}
 use Rattle.vt_births.specs.declared.upper_nodes.UpperNodes.{UpperNodes}
 use Rattle.vt_births.specs.Kept.{KeptValue, uses_of}
+use Rattle.vt_fs.specs.FilesystemsValue.{Filesystems}
 use Rattle.vt_location.specs.declared.locations.NodeRef.{NodeRef}
+use Rattle.vt_location.specs.Locations.{number_of}
 use Rattle.vt_location.specs.SameNodes.{same_node}
 use Rattle.vt_upper.specs.declared.losing.Losing.{Losing}
 use Rattle.vt_upper.specs.declared.losing.Losing.TheVariants.{Last, Named}
 use Rattle.vt_upper.specs.declared.making.Place.{Place}
 use Rattle.vt_upper.specs.declared.making.Place.TheVariants.{Copied, There}
+use Rattle.vt_upper.specs.LastName.{IsAlsoElsewhere, IsOnlyAt}
+use Rattle.vt_upper_overlay.specs.UpperValue.{UpperOverlayValue}
 
 -- it is kept: it was the last name, and something is on the node
 abbrev pub keeps_node : Losing → Bool
@@ -25,6 +29,12 @@ IsKeeping keeps (Copied copies room) = ⊤
 abbrev pub IsNotKept : Losing → KeptValue → Type 0
 IsNotKept Named kept = ⊤
 IsNotKept (Last node uses) kept = uses_of kept node ≡ 0
+
+-- what a node with so many uses loses with its name at a path: one of several, or its last one
+abbrev pub IsLosing : Filesystems → UpperOverlayValue → List (List ℕ) → NodeRef → ℕ → Losing → Type 0
+IsLosing trees overlay path node uses Named = IsAlsoElsewhere trees overlay (number_of node) path
+IsLosing trees overlay path node uses (Last it many) =
+    (it ≡ node) × (many ≡ uses) × IsOnlyAt trees overlay (number_of node) path
 
 -- room is promised for a node that is kept
 abbrev pub MayBeKept : Losing → KeptValue → Type 0

@@ -11,7 +11,7 @@ ghost use Rattle.vt_upper_overlay.specs.MergedAbove.{number_at, object_shown, up
 ghost use Rattle.vt_upper_overlay.specs.Standing.{StandsAbove};
 
 use std::alloc::{AllocError, Global};
-use vt_copyup::{Plan, plan};
+use vt_copyup::{Plan, Source, plan};
 use vt_fs::Filesystems;
 use vt_location::{Birth, InodeRef, NodeRef};
 use vt_node::{EntryRoom, NodeId};
@@ -50,15 +50,13 @@ pub(crate) fn plan_copies(
         unreachable!();
     };
     let path = place.way.under(place.name);
-    plan(
-        alloc,
+    let source = Source {
         trees,
-        room,
-        overlay.layers(),
-        object.filesystem,
-        &path,
+        layers: overlay.layers(),
+        overlay: object.filesystem,
         with_bytes,
-    )
+    };
+    plan(alloc, source, room, &path)
 }
 
 // Where a node was born: the way to a directory, and a name there.

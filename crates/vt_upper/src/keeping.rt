@@ -12,7 +12,7 @@ ghost use Rattle.vt_upper_overlay.specs.Standing.{StandsAbove};
 use crate::changing::ObjectChange;
 use std::alloc::{AllocError, Global};
 use vt_births::Births;
-use vt_copyup::{UnnamedPlan, give_back, plan_unnamed, promise};
+use vt_copyup::{LowerObject, UnnamedPlan, give_back, plan_unnamed, promise};
 use vt_fs::Filesystems;
 use vt_location::{FilesystemId, InodeRef, NodeRef};
 use vt_upper_overlay::UpperOverlay;
@@ -167,6 +167,10 @@ fn kept_object(
         return Ok(KeptObject::There { object: real.inode });
     }
     let upper = overlay.upper().directory.filesystem;
-    let copy = plan_unnamed(alloc, trees, upper, real.inode, object, with_bytes)?;
+    let lower = LowerObject {
+        inode: real.inode,
+        born: object,
+    };
+    let copy = plan_unnamed(alloc, trees, upper, lower, with_bytes)?;
     Ok(KeptObject::Copied { copy })
 }

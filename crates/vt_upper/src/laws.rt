@@ -1,7 +1,9 @@
 //! Laws of plans.
 ghost use Rattle.vt_upper.specs.CopyLaws.{CopiesStay, CopiesStayHidden};
 ghost use Rattle.vt_upper.specs.KeptLaws.{KeptChangesAboveAreMade, KeptChangesBelowAreMade};
+ghost use Rattle.vt_upper.specs.LastName.{LastNamesLeaveNone};
 ghost use Rattle.vt_upper.specs.Laws.{ChangesAboveAreMade, ChangesBelowAreMade};
+ghost use Rattle.vt_upper.specs.LosingLaws.{LosersAreHeld, UnnamedAreHeld};
 ghost use Rattle.vt_upper.specs.NewLaws.{NewObjectsAreMade};
 ghost use Rattle.vt_upper.specs.RemovalLaws.{NamesAreGone, NamesAreHidden};
 
@@ -34,6 +36,22 @@ pub fn new_objects_are_made()
 {
     changes_of_overlays_are_rows();
 }
+
+/// A name that is removed from the merged tree is the last one of its node just if the node has none in that tree then.
+pub fn last_names_leave_none()
+    ensures { LastNamesLeaveNone }
+{}
+
+/// A node that loses its last name and is kept is held without a name then, with the real object that it was shown with.
+/// What else is held stays as it was; so all does where the node has other names, or nothing is on it (`held`). So in the
+/// definitions' merged tree without that name, what has no name is held with its real object, but for a node that is not
+/// kept (`unnamed`).
+///
+/// The trees of the layers are those before the name goes, and the births those with the plan's copies.
+pub fn losers_are_held()
+    ensures held { LosersAreHeld }
+    ensures unnamed { UnnamedAreHeld }
+{}
 
 /// What a plan makes of the upper layer's tree where it removes a name is what the definitions' change makes of it, but for
 /// what had the name and what was in it, which go if nothing uses them: a whiteout hides what lower layers show there

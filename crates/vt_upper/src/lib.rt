@@ -5,6 +5,7 @@
 mod changing;
 mod copying;
 mod keeping;
+mod last_name;
 mod laws;
 mod leaving;
 mod losing;
@@ -14,9 +15,10 @@ mod removing;
 
 pub use changing::{ChangePlan, ObjectChange};
 pub use keeping::KeptChangePlan;
+pub use last_name::is_last_name;
 pub use laws::{
-    changes_are_made, kept_changes_are_made, new_objects_are_made, removals_are_made,
-    removals_keep_copies,
+    changes_are_made, kept_changes_are_made, last_names_leave_none, losers_are_held,
+    new_objects_are_made, removals_are_made, removals_keep_copies,
 };
-pub use losing::{Losing, RemovalPlan, RemovedName};
+pub use losing::{RemovalPlan, RemovedName};
 pub use making::{NamedNode, NewPlan};

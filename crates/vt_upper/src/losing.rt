@@ -1,6 +1,7 @@
 //! What loses its last name: unlink(2), rmdir(2). It is kept while something is on it; else its birth is forgotten.
 ghost use Rattle.std.specs.Prelude.{◌≡◌, ◌+◌, ◌++◌, ◌-◌, ◌<◌, ◌≤◌, ◌∷◌, [], IfOk, List, OnErr, Some, nat_lt, true, ℕ};
 ghost use Rattle.vt_spec.specs.Machine.CopyUp.{whiteout_of};
+ghost use Rattle.vt_spec.specs.TreeInvariant.{entry_at};
 ghost use Rattle.vt_births.specs.Births.{BirthsValue};
 ghost use Rattle.vt_births.specs.Kept.{uses_of};
 ghost use Rattle.vt_copyup.specs.Plans.{CopiesAreThere};
@@ -8,11 +9,13 @@ ghost use Rattle.vt_fs.specs.FilesystemsValue.{giving_back, promising, with_chan
 ghost use Rattle.vt_location.specs.Locations.{number_of};
 ghost use Rattle.vt_overlay.specs.declared.merge.layers.LayerRef.{LayerRef as Layer};
 ghost use Rattle.vt_upper.specs.Below.{is_shown_below};
-ghost use Rattle.vt_upper.specs.Losing.{IsKeeping, IsLeftBy, IsLeftSo, IsNotKept, MayBeKept, keeps_node};
+ghost use Rattle.vt_upper.specs.LastName.{IsNameAt};
+ghost use Rattle.vt_upper.specs.Losing.{IsKeeping, IsLeftBy, IsLeftSo, IsLosing, IsNotKept, MayBeKept, keeps_node};
 ghost use Rattle.vt_upper.specs.New.{IsPlaceOf, IsRemovalReady, IsRemoved, MayRemoveFrom, many_in, one_if, start_of};
-ghost use Rattle.vt_upper_overlay.specs.MergedAbove.{directory_path, upper_count};
+ghost use Rattle.vt_upper_overlay.specs.MergedAbove.{directory_path, merged_above, upper_count};
 ghost use Rattle.vt_upper_overlay.specs.Standing.{StandsAbove};
 
+use crate::last_name::is_last_name;
 use crate::removing::NameRemoval;
 use std::alloc::{AllocError, Global};
 use vt_births::UpperNodes;
@@ -21,16 +24,37 @@ use vt_location::NodeRef;
 use vt_node::EntryRoom;
 use vt_upper_overlay::UpperOverlay;
 
-/// A node that loses a name.
+// A node that loses a name.
 #[derive(Debug, Drop)]
-pub enum Losing {
-    /// It has other names.
+pub(crate) enum Losing {
+    // It has other names.
     Named,
-    /// It has no other name. So many locations, roots of mounts and mount points are on it.
+    // It has no other name. So many locations, roots of mounts and mount points are on it.
     Last { node: NodeRef, uses: u64 },
 }
 
 impl Losing {
+    // What a node that has so many uses loses with its name in a directory that is shown.
+    pub(crate) fn of(
+        trees: &Filesystems,
+        overlay: &UpperOverlay,
+        directory: NodeRef,
+        node: NodeRef,
+        uses: u64,
+    ) -> Losing
+        requires standing { StandsAbove trees.now overlay.now }
+        requires own { directory.filesystem ≡ overlay.now.layers.number }
+        ensures loses { (path : List (List ℕ)) (name : List ℕ) → IsNameAt trees.now overlay.now directory node path name
+            → IsLosing trees.now overlay.now (path ++ name ∷ []) node uses result }
+        ensures not_kept { (path : List (List ℕ)) (name : List ℕ)
+            → IsNameAt trees.now overlay.now directory node path name → IsNotKept result overlay.now.nodes.kept }
+    {
+        if is_last_name(trees, overlay, directory, node) {
+            return Losing::Last { node, uses };
+        }
+        Losing::Named
+    }
+
     // Whether the node is kept: something is on it.
     fn keeps(&self) -> bool
         ensures { result ≡ keeps_node self.now }
@@ -74,11 +98,12 @@ fn one_more(keeps: bool) -> usize
     if keeps { 1 } else { 0 }
 }
 
-/// A name that is removed, and the node that loses it.
+/// A name that is removed, and the node that has it. So many locations, roots of mounts and mount points are on that.
 #[derive(Debug, Drop)]
 pub struct RemovedName {
     pub name: Vec<u8>,
-    pub losing: Losing,
+    pub node: NodeRef,
+    pub uses: u64,
 }
 
 /// A name that is removed, with the copies that its directory needs, and what is left of the node that had it. It owns all
@@ -91,8 +116,9 @@ pub struct RemovalPlan {
 
 impl RemovalPlan {
     /// Plans the removal of a name from a directory that is shown: of a file, or of a directory that shows nothing. The
-    /// whiteouts in that go with it. The whiteout is made only if it has to hide something. Nothing changes that anyone
-    /// sees. It fails if an allocation does, or if what goes has 2^64 - 1 uses.
+    /// whiteouts in that go with it. The whiteout is made only if it has to hide something. The node is kept if that is its
+    /// last name, and it has uses. Nothing changes that anyone sees. It fails if an allocation does, or if what goes has
+    /// 2^64 - 1 uses.
     pub fn new(
         alloc: Global,
         trees: &mut Filesystems,
@@ -105,10 +131,13 @@ impl RemovalPlan {
         requires own { directory.filesystem ≡ overlay.old.layers.number }
         requires there { CopiesAreThere trees.old (upper_count overlay.old) overlay.old.nodes.births }
         requires may_remove { MayRemoveFrom trees.old overlay.old directory removed.name.items }
-        requires not_kept { IsNotKept removed.losing overlay.old.nodes.kept }
+        requires named { entry_at (merged_above trees.old overlay.old) (number_of directory) removed.name.items
+            ≡ Some (number_of removed.node) }
         ensures place { IfOk result (λ plan. IsPlaceOf trees.old overlay.old directory plan.removal.place) }
-        ensures keeps { IfOk result (λ plan. IsKeeping (keeps_node removed.losing) plan.removal.place) }
-        ensures losing { IfOk result (λ plan. plan.losing ≡ removed.losing) }
+        ensures keeps { IfOk result (λ plan. IsKeeping (keeps_node plan.losing) plan.removal.place) }
+        ensures losing { IfOk result (λ plan. (path : List (List ℕ))
+            → directory_path trees.old overlay.old (number_of directory) ≡ Some path
+            → IsLosing trees.old overlay.old (path ++ removed.name.items ∷ []) removed.node removed.uses plan.losing) }
         ensures name { IfOk result (λ plan. plan.removal.white.name ≡ removed.name) }
         ensures white { IfOk result (λ plan. plan.removal.white.node ≡ whiteout_of overlay.old.layers.mounter) }
         ensures hidden { IfOk result (λ plan. (path : List (List ℕ)) (upper : Layer) (lowers : List Layer)
@@ -126,7 +155,7 @@ impl RemovalPlan {
               promised = overlay.old.nodes.births.promised + many_in plan.removal.place;
             };
             kept = record overlay.old.nodes.kept {
-              promised = overlay.old.nodes.kept.promised + one_if (keeps_node removed.losing);
+              promised = overlay.old.nodes.kept.promised + one_if (keeps_node plan.losing);
             };
           };
         }) }
@@ -134,7 +163,8 @@ impl RemovalPlan {
         ensures err { OnErr result (trees.new ≡ trees.old) }
         ensures err_overlay { OnErr result (overlay.new ≡ overlay.old) }
     {
-        let RemovedName { name, losing } = removed;
+        let RemovedName { name, node, uses } = removed;
+        let losing = Losing::of(trees, overlay, directory, node, uses);
         let removal = NameRemoval::new(alloc, trees, overlay, room, directory, name)?;
         let keeps = losing.keeps();
         match overlay.nodes.kept.promise(one_more(keeps)) {

@@ -24,7 +24,7 @@ use crate::leaving::{Leaving, entry_of};
 use crate::lowers::directory_below;
 use std::alloc::{AllocError, Global};
 use vt_births::Births;
-use vt_copyup::{CopiedNode, Plan, give_back, promise};
+use vt_copyup::{CopiedNode, FreeName, Plan, give_back, promise};
 use vt_fs::Filesystems;
 use vt_location::{FilesystemId, InodeRef, NodeRef};
 use vt_node::EntryRoom;
@@ -73,10 +73,10 @@ impl Spot {
         } = self;
         let NamedNode { name, node } = object;
         let Some(leaving) = leaving else {
-            return node.make(alloc, trees, directory, name, room);
+            return node.make(alloc, trees, FreeName { directory, name }, room);
         };
         leaving.free(trees, directory, &name);
-        let made = node.make(alloc, trees, directory, name, room);
+        let made = node.make(alloc, trees, FreeName { directory, name }, room);
         leaving.let_go(trees, keeps);
         made
     }
@@ -307,7 +307,7 @@ fn make_in_copy(
 {
     let NamedNode { name, node } = object;
     let mut room = room;
-    node.make(alloc, trees, directory, name, &mut room)
+    node.make(alloc, trees, FreeName { directory, name }, &mut room)
 }
 
 // Marks a directory opaque, or not. It does not allocate.

@@ -5,6 +5,8 @@ use Rattle.vt_upper.specs.declared.removing.NameRemoval.{NameRemoval}
 use Rattle.vt_upper.specs.Losing.{IsKeeping, IsNotKept, MayBeKept, keeps_node}
 use Rattle.vt_upper.specs.New.{IsPlaceOf, IsRemovalReady, many_in, one_if, start_of}
 use Rattle.vt_upper_overlay.specs.MergedAbove.{upper_count}
+use Rattle.vt_location.specs.Locations.{number_of}
+use Rattle.vt_upper.proofs.NamesLeft.{name_at, way_of_entry}
 use Rattle.vt_upper.proofs.KeptPlaces.{given_up, keeping_so, kept_is, many_keeping, not_kept_still, place_keeping, promised_kept, ready_keeping}
 use Rattle.vt_upper.proofs.losing.RemovalPlan.new.Goals as goal
 
@@ -19,9 +21,15 @@ returns-in-Ok-clause-place c =
 pub returns-in-Ok-clause-keeps : goal.returns-in-Ok-clause-keeps
 returns-in-Ok-clause-keeps c =
     let removal = c.in_ok-removal.removal in
-    subst (λ (r : NameRemoval). IsKeeping (keeps_node c.args.removed.losing) r.place) (sym c.keeping.ensures)
+    subst (λ (r : NameRemoval). IsKeeping (keeps_node c.of-losing.result) r.place) (sym c.keeping.ensures)
     (subst (λ b. IsKeeping b (Rattle.vt_upper.specs.New.keeping c.keeps-keeps.result removal.place)) c.keeps-keeps.ensures
     (keeping_so c.keeps-keeps.result removal.place))
+
+pub returns-in-Ok-clause-losing : goal.returns-in-Ok-clause-losing
+returns-in-Ok-clause-losing c = λ path way.
+    c.of-losing.ensures.loses path c.args.removed.name.items
+    (name_at c.args.trees.now c.args.overlay.now c.args.directory c.args.removed.node c.args.removed.name.items
+    c.requires.named path way)
 
 pub returns-in-Ok-clause-name : goal.returns-in-Ok-clause-name
 returns-in-Ok-clause-name c = ap (λ (r : NameRemoval). r.white.name) c.keeping.ensures ∙ c.in_ok-removal.ensures.name
@@ -45,13 +53,17 @@ returns-in-Ok-clause-ready c =
 
 pub returns-in-Ok-clause-may_be_kept : goal.returns-in-Ok-clause-may_be_kept
 returns-in-Ok-clause-may_be_kept c =
-    let losing = c.args.removed.losing in
+    let losing = c.of-losing.result in
+    let way = way_of_entry c.args.trees.now c.args.overlay.now (number_of c.args.directory)
+    (number_of c.args.removed.node) c.args.removed.name.items c.requires.named in
     let old = c.new.new.overlay.nodes.kept in
     let many = c.one_more.result in
     let one : many ≡ one_if (keeps_node losing) = c.one_more.ensures ∙ ap one_if c.keeps-keeps.ensures in
     let none : IsNotKept losing old = subst (IsNotKept losing) (sym (kept_is c.args.overlay.now c.new.new.overlay
     (many_in c.in_ok-removal.removal.place) c.in_ok-removal.ensures.others c.in_ok-removal.ensures.births))
-    c.requires.not_kept in
+    (c.of-losing.ensures.not_kept way.0 c.args.removed.name.items
+    (name_at c.args.trees.now c.args.overlay.now c.args.directory c.args.removed.node c.args.removed.name.items
+    c.requires.named way.0 way.1)) in
     subst (MayBeKept losing) (sym c.in-Ok.ensures.ok) (
       λ yes. let more : many ≡ 1 = one ∙ ap one_if yes in omega (arith, more),
       not_kept_still losing old (old.promised + many) none,
@@ -73,7 +85,7 @@ returns-in-Ok-clause-overlay c =
     let removal = c.in_ok-removal.removal in
     let old = c.args.overlay.now in
     let many = c.one_more.result in
-    let one : many ≡ one_if (keeps_node c.args.removed.losing) =
+    let one : many ≡ one_if (keeps_node c.of-losing.result) =
     c.one_more.ensures ∙ ap one_if c.keeps-keeps.ensures in
     let places : many_in removal.place ≡ many_in c.keeping.result.place =
     sym (many_keeping c.keeps-keeps.result removal.place)
