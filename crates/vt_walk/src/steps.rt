@@ -106,19 +106,28 @@ fn stepped_up<'a, L: Look>(
     step_up(world, who, start, is_found)
 }
 
+// Where a walk stands before a word: the real object there, whether it is known to be found, and what the walk keeps of
+// the mount.
+#[derive(Clone, Copy, Debug)]
+struct WalkState<'a> {
+    location: Location,
+    is_found: bool,
+    node: Option<&'a Node>,
+    ground: Ground,
+}
+
 // Where a word leads from a directory: a name through the mounts over the entry. W6: a missing name. W8: `..` of a lost
 // directory.
 #[inline(always)]
 fn stepped<'a, L: Look>(
     world: &'a L,
     who: &Task,
-    from: Step<'a>,
-    ground: Ground,
+    from: WalkState<'a>,
     directory: &Node,
     word: LastWord,
 ) -> Result<Step<'a>, Deny>
-    requires ground { IsGround (L.looks world.now) from.location.mount ground }
-    requires lent { IsLent (L.real world.now) from.location (option_copied from.lent) }
+    requires ground { IsGround (L.looks world.now) from.location.mount from.ground }
+    requires node { IsNodeAt (L.real world.now) from.location (option_copied from.node) }
     requires directory { IsNodeAt (L.real world.now) from.location (Some directory.now) }
     requires found { from.is_found ≡ true → is_lost nat_eq (L.looks world.now) (location_of from.location) ≡ false }
     ensures value { step_result result
@@ -129,13 +138,15 @@ fn stepped<'a, L: Look>(
 {
     match word {
         LastWord::NoWord | LastWord::Dot => Ok(Step {
-            ground: Some(ground),
-            ..from
+            location: from.location,
+            is_found: from.is_found,
+            lent: from.node,
+            ground: Some(from.ground),
         }),
         LastWord::DotDot => stepped_up(world, who, from.location, from.is_found),
         LastWord::Named(name) => match entry_there(world, from.location, directory, name) {
             Some((entry, object)) => {
-                if ground.is_bare {
+                if from.ground.is_bare {
                     return Ok(Step {
                         location: entry,
                         is_found: from.is_found,
@@ -173,17 +184,16 @@ pub(crate) fn object_named<L: Look>(
     }
 }
 
-// Where one word leads, with no symlink followed, from a location with the object that is lent.
+// Where one word leads, with no symlink followed.
 #[inline(always)]
 fn word_led<'a, L: Look>(
     world: &'a L,
     who: &Task,
-    from: Step<'a>,
-    ground: Ground,
+    from: WalkState<'a>,
     word: LastWord,
 ) -> Result<Step<'a>, Deny>
-    requires ground { IsGround (L.looks world.now) from.location.mount ground }
-    requires node { IsNodeAt (L.real world.now) from.location (option_copied from.lent) }
+    requires ground { IsGround (L.looks world.now) from.location.mount from.ground }
+    requires node { IsNodeAt (L.real world.now) from.location (option_copied from.node) }
     requires found { IsFound (L.looks world.now) from.location from.is_found }
     ensures value { step_result result
         ≡ word_led (L.looks world.now) (task_of who.now) (location_of from.entry.location) (last_of word.entry) }
@@ -191,8 +201,8 @@ fn word_led<'a, L: Look>(
     ensures lent { IfOk result (λ step. IsLent (L.real world.now) step.location (option_copied step.lent)) }
     ensures ground { IfOk result (λ step. IfSome step.ground (IsGround (L.looks world.now) step.location.mount)) }
 {
-    let directory = searched(world, who, ground, from.location, from.lent)?;
-    stepped(world, who, from, ground, directory, word)
+    let directory = searched(world, who, from.ground, from.location, from.node)?;
+    stepped(world, who, from, directory, word)
 }
 
 // The real object where a walk has come to, looked for if no entry led there.
@@ -240,13 +250,13 @@ pub(crate) fn last_walked<'a, L: Look>(
         LastWord::NoWord => Ok(here),
         _ => {
             let ground = world.ground(here.location.mount);
-            let from = Step {
+            let from = WalkState {
                 location: here.location,
                 is_found: false,
-                lent: node_here(world, ground, here.location, here.lent),
-                ground: None,
+                node: node_here(world, ground, here.location, here.lent),
+                ground,
             };
-            let next = word_led(world, who, from, ground, last)?;
+            let next = word_led(world, who, from, last)?;
             Ok(Here {
                 location: next.location,
                 left: here.left,
@@ -348,13 +358,13 @@ fn words_walked_to_link<'a, L: Look>(
     let mut is_found = false;
     while let Some(word) = words.next() {
         let directory = location;
-        let from = Step {
+        let from = WalkState {
             location,
             is_found,
-            lent: node,
-            ground: None,
+            node,
+            ground,
         };
-        let next = word_led(world, who, from, ground, LastWord::of(word))?;
+        let next = word_led(world, who, from, LastWord::of(word))?;
         location = next.location;
         is_found = next.is_found;
         if let Some(entered) = next.ground {
