@@ -26,7 +26,7 @@ use vt_location::Location;
 use vt_looks::{Asked, Look};
 use vt_node::{Kind, LARGEST_FILE};
 use vt_request::{Access, Creation};
-use vt_rules::{is_directory, is_kind, is_read_only, may, readable_file, writable_file};
+use vt_rules::{OpenHow, is_directory, is_kind, is_read_only, may, readable_file, writable_file};
 use vt_spec::errors::{Deny, Rule};
 use vt_tasks::{MAX_DESCRIPTORS, Task};
 
@@ -134,13 +134,6 @@ fn has_no_room(who: &Task) -> bool
     who.descriptors.len() >= MAX_DESCRIPTORS
 }
 
-/// How open(2) opens a file.
-#[derive(Clone, Copy, Debug)]
-pub struct How {
-    pub access: Access,
-    pub creation: Creation,
-}
-
 /// S3, and then those of a file that is there, or of one that is made.
 #[tactic(auto, unfolding(vt_spec::specs::Machine::Judging::judging))]
 pub fn open<L: Look>(
@@ -148,7 +141,7 @@ pub fn open<L: Look>(
     who: &Task,
     passed: &[Rule],
     path: &[u8],
-    how: How,
+    how: OpenHow,
 ) -> Result<(), Deny>
     ensures { MountersStayAsked (L.looks world.now)
         → result ≡ call_past (L.looks world.now) (task_of who.now) passed.now

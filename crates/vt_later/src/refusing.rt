@@ -7,7 +7,7 @@ ghost use Rattle.vt_later.specs.Passing.{judge_past, MountersStayAsked, refused_
 ghost use Rattle.vt_later.specs.Past.{behind_needs, call_past, refusal_past, RefusesAs};
 
 use crate::attributes::{Owners, chmod, chown, opaque};
-use crate::descriptors::{How, Part, close, open, pread, pwrite};
+use crate::descriptors::{Part, close, open, pread, pwrite};
 use crate::looking::{exec, list, lstat, read, readlink, stat};
 use crate::making::{link, mkdir, symlink, whiteout, write};
 use crate::mounting::{
@@ -23,6 +23,7 @@ use vt_looks::Look;
 use vt_request::{
     Call, DescriptorCall, LookCall, MakeCall, MountCall, RemoveCall, TaskCall, WriteCall,
 };
+use vt_rules::OpenHow;
 use vt_spec::errors::{Deny, Rule};
 use vt_tasks::Task;
 
@@ -138,7 +139,7 @@ fn descriptor_refused<L: Look>(
             access,
             creation,
         } => {
-            let how = How {
+            let how = OpenHow {
                 access: *access,
                 creation: *creation,
             };

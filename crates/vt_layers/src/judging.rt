@@ -135,6 +135,13 @@ fn overlay_granted<L: Look>(
     })
 }
 
+/// What mount(2) of an overlay is given: its options, or a text that is no list of options, and its flags.
+#[derive(Clone, Copy)]
+pub struct OverlayWords<'a> {
+    pub options: &'a Result<LayerOptions<'a>, &'a [u8]>,
+    pub flags: MountFlags,
+}
+
 /// Judges a mount of an overlay: what it is granted, or the first rule that refuses it, in the policy's order.
 ///
 /// K1 (EPERM), and after the rules of the walk to the destination those of `layers_named`, then M2 (EINVAL), M9
@@ -144,24 +151,24 @@ pub fn mount_overlay<L: LookAtLayers>(
     world: &L,
     who: &Task,
     path: &[u8],
-    options: &Result<LayerOptions<'_>, &[u8]>,
-    flags: MountFlags,
+    overlay: OverlayWords<'_>,
 ) -> Result<Grant, Deny>
-    ensures { JudgesByReceivers (MountOverlay path.now (result_ok options.now) (flags_of flags)) (task_of who.now)
-        (judge nat_eq (L.looks world.now) (L.overfills world.now) (task_of who.now)
-        (MountOverlay path.now (result_ok options.now) (flags_of flags))) result }
+    ensures { JudgesByReceivers (MountOverlay path.now (result_ok overlay.entry.options.now)
+        (flags_of overlay.entry.flags)) (task_of who.now) (judge nat_eq (L.looks world.now) (L.overfills world.now)
+        (task_of who.now) (MountOverlay path.now (result_ok overlay.entry.options.now)
+        (flags_of overlay.entry.flags))) result }
 {
     if lacks(who, Caps::CAP_SYS_ADMIN) {
         return Err(Rule::K1.denial());
     }
     let destination = destination_at(world, who, path)?;
-    let layers = layers_named(world, who, options)?;
+    let layers = layers_named(world, who, overlay.options)?;
     if is_elsewhere(world, who, destination) {
         return Err(Rule::M2.denial());
     }
     if world.overfills_with_overlay(destination)? {
         return Err(Rule::M9.denial());
     }
-    let new = overlay_granted(alloc, world, destination, &layers, flags)?;
+    let new = overlay_granted(alloc, world, destination, &layers, overlay.flags)?;
     Ok(Grant::Overlay(new))
 }

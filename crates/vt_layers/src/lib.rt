@@ -6,7 +6,7 @@ mod looks;
 mod rules;
 mod walks;
 
-pub use judging::{layers_named, mount_overlay};
+pub use judging::{OverlayWords, layers_named, mount_overlay};
 pub use looks::LookAtLayers;
 pub use rules::{MOST_LOWERS, may_be_layers};
 pub use walks::{KEPT_LOWERS, LayerLocations, Lower, Lowers, layers_walked};

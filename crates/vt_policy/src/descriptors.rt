@@ -11,12 +11,13 @@ ghost use Rattle.vt_policy.specs.Judged.{judge_by_looks, run_by_looks};
 
 use crate::paths::{file_place, new_place, object_at};
 use std::alloc::Global;
-use vt_cred::Mode;
 use vt_looks::Look;
 use vt_node::LARGEST_FILE;
 use vt_permits::{DescriptorGrant, Grant, LookGrant, ToReadPart, ToWritePart, WriteGrant};
-use vt_request::{Access, Creation};
-use vt_rules::{create_file_permit, open_file_permit, readable_file, writable_file};
+use vt_request::Creation;
+use vt_rules::{
+    CreateHow, OpenHow, create_file_permit, open_file_permit, readable_file, writable_file,
+};
 use vt_spec::errors::{Deny, Rule};
 use vt_tasks::{MAX_DESCRIPTORS, Task};
 
@@ -26,20 +27,19 @@ fn open_or_create<L: Look>(
     world: &L,
     who: &Task,
     path: &[u8],
-    access: Access,
-    mode: Mode,
+    how: CreateHow,
 ) -> Result<Grant, Deny>
     ensures { Judges (task_of who.now)
         (run_by_looks (L.looks world.now) (task_of who.now)
-        (opens nat_eq (L.looks world.now) (task_of who.now) path.now (access_of access) (OrCreate mode))) result }
+        (opens nat_eq (L.looks world.now) (task_of who.now) path.now (access_of how.access) (OrCreate how.mode))) result }
 {
     let place = file_place(world, who, path)?;
     if place.last.is_special() || place.slash {
         return Err(Rule::E2.denial());
     }
     match place.object {
-        Some(file) => open_file_permit(world, who, file, access),
-        None => create_file_permit(alloc, world, who, &place, access, mode),
+        Some(file) => open_file_permit(world, who, file, how.access),
+        None => create_file_permit(alloc, world, who, &place, how),
     }
 }
 
@@ -49,12 +49,11 @@ fn open_exclusive<L: Look>(
     world: &L,
     who: &Task,
     path: &[u8],
-    access: Access,
-    mode: Mode,
+    how: CreateHow,
 ) -> Result<Grant, Deny>
     ensures { Judges (task_of who.now)
         (run_by_looks (L.looks world.now) (task_of who.now)
-        (opens nat_eq (L.looks world.now) (task_of who.now) path.now (access_of access) (Exclusive mode))) result }
+        (opens nat_eq (L.looks world.now) (task_of who.now) path.now (access_of how.access) (Exclusive how.mode))) result }
 {
     let place = new_place(world, who, path)?;
     if place.last.is_special() {
@@ -66,7 +65,7 @@ fn open_exclusive<L: Look>(
     if place.object.is_some() {
         return Err(Rule::E1.denial());
     }
-    create_file_permit(alloc, world, who, &place, access, mode)
+    create_file_permit(alloc, world, who, &place, how)
 }
 
 /// Before the rules of the walk: S3 (EMFILE). After them those of a file that is there, or of one that is made.
@@ -76,23 +75,27 @@ pub fn open<L: Look>(
     world: &L,
     who: &Task,
     path: &[u8],
-    access: Access,
-    creation: Creation,
+    how: OpenHow,
 ) -> Result<Grant, Deny>
     ensures { Judges (task_of who.now)
         (judge_by_looks (L.looks world.now) (task_of who.now)
-        (OpenFile path.now (access_of access) (creation_of creation))) result }
+        (OpenFile path.now (access_of how.access) (creation_of how.creation))) result }
 {
     if who.descriptors.len() >= MAX_DESCRIPTORS {
         return Err(Rule::S3.denial());
     }
+    let OpenHow { access, creation } = how;
     match creation {
         Creation::Never => {
             let file = object_at(world, who, path)?;
             open_file_permit(world, who, file, access)
         }
-        Creation::OrCreate(mode) => open_or_create(alloc, world, who, path, access, mode),
-        Creation::Exclusive(mode) => open_exclusive(alloc, world, who, path, access, mode),
+        Creation::OrCreate(mode) => {
+            open_or_create(alloc, world, who, path, CreateHow { access, mode })
+        }
+        Creation::Exclusive(mode) => {
+            open_exclusive(alloc, world, who, path, CreateHow { access, mode })
+        }
     }
 }
 

@@ -14,12 +14,12 @@ use crate::mounting::{bind, lazy, mount_plain, move_mount, pivot_root, remount, 
 use crate::removing::{rename, rmdir, unlink};
 use crate::tasks::{chdir, chroot, fork, permission_bits, setns, unshare};
 use std::alloc::Global;
-use vt_layers::{LookAtLayers, mount_overlay};
+use vt_layers::{LookAtLayers, OverlayWords, mount_overlay};
 use vt_permits::{Grant, LookGrant, TaskGrant};
 use vt_request::{
     Call, DescriptorCall, LookCall, MakeCall, MountCall, RemoveCall, TaskCall, WriteCall,
 };
-use vt_rules::named;
+use vt_rules::{OpenHow, named};
 use vt_spec::errors::Deny;
 use vt_tasks::Task;
 
@@ -162,7 +162,13 @@ fn judge_descriptor<L: LookAtLayers>(
             path,
             access,
             creation,
-        } => open(alloc, world, who, path, *access, *creation),
+        } => {
+            let how = OpenHow {
+                access: *access,
+                creation: *creation,
+            };
+            open(alloc, world, who, path, how)
+        }
         DescriptorCall::Close { descriptor } => close(who, *descriptor),
     }
 }
@@ -212,7 +218,13 @@ fn judge_mount<L: LookAtLayers>(
             path,
             options,
             flags,
-        } => mount_overlay(alloc, world, who, path, &options, flags),
+        } => {
+            let overlay = OverlayWords {
+                options: &options,
+                flags,
+            };
+            mount_overlay(alloc, world, who, path, overlay)
+        }
         MountCall::Bind {
             source,
             path,

@@ -21,7 +21,7 @@ use vt_location::Location;
 use vt_looks::{Asked, Look, Place};
 use vt_node::{Kind, NewNode, Node};
 use vt_permits::{DescriptorGrant, Grant, ToOpenNew};
-use vt_request::Access;
+use vt_request::{Access, Creation};
 use vt_spec::errors::{Deny, Rule};
 use vt_tasks::Task;
 
@@ -95,6 +95,20 @@ pub fn open_file_permit<L: Look>(
     Ok(Grant::Descriptor(DescriptorGrant::Open { file, access }))
 }
 
+/// How open(2) opens a file.
+#[derive(Clone, Copy, Debug)]
+pub struct OpenHow {
+    pub access: Access,
+    pub creation: Creation,
+}
+
+/// How open(2) opens a file that it may make, and the mode that it asks for.
+#[derive(Clone, Copy, Debug)]
+pub struct CreateHow {
+    pub access: Access,
+    pub mode: Mode,
+}
+
 /// The permit to make a file at a place, and to open it: open(2) with `O_CREAT`.
 ///
 /// The rules of `may_make`. S5 (ENOMEM): the allocation of the name failed.
@@ -103,19 +117,18 @@ pub fn create_file_permit<L: Look>(
     world: &L,
     who: &Task,
     place: &Place,
-    access: Access,
-    mode: Mode,
+    how: CreateHow,
 ) -> Result<Grant, Deny>
     ensures { (meant : PlaceMeant ℕ) → IsPlaceOf place.now meant → Judges (task_of who.now)
-        (create_file_permit (L.looks world.now) (task_of who.now) meant (access_of access) mode)
+        (create_file_permit (L.looks world.now) (task_of who.now) meant (access_of how.access) how.mode)
         result }
 {
     may_make(world, who, place.parent)?;
     Ok(Grant::Descriptor(DescriptorGrant::OpenNew(ToOpenNew {
         directory: place.parent,
         name: name_at(alloc, place.last)?,
-        node: NewNode::file(new_attr(who, mode), Vec::new(alloc)),
-        access,
+        node: NewNode::file(new_attr(who, how.mode), Vec::new(alloc)),
+        access: how.access,
     })))
 }
 

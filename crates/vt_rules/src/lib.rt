@@ -11,7 +11,9 @@ mod rights;
 mod tasks;
 
 pub use attributes::{attr_permit, may_chown, may_mark};
-pub use descriptors::{create_file_permit, open_file_permit, readable_file, writable_file};
+pub use descriptors::{
+    CreateHow, OpenHow, create_file_permit, open_file_permit, readable_file, writable_file,
+};
 pub use making::{
     empty_directory, may_link, may_make, may_make_whiteout, new_file_permit, rewrite_permit,
 };

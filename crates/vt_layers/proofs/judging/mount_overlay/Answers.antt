@@ -16,8 +16,8 @@ returns-then-lacks g c =
     let looks = g.L.Look.looks c.args.world.now in
     let overfills = g.L.LookAtMounts.overfills c.args.world.now in
     let task = task_of c.args.who.now in
-    let options = result_ok c.args.options.now in
-    let flags = flags_of c.args.flags in
+    let options = result_ok c.args.overlay.options.now in
+    let flags = flags_of c.args.overlay.flags in
     refused_before (MountOverlay c.args.path.now options flags) task (judge nat_eq looks overfills task (MountOverlay c.args.path.now options flags)) _
     (without_capability looks task overfills c.args.path.now options flags (sym c.lacks.ensures ∙ c.if-lacks.true)
     ∙ ap Err (sym c.denial.ensures))
@@ -27,8 +27,8 @@ returns-in_err-destination g c =
     let looks = g.L.Look.looks c.args.world.now in
     let overfills = g.L.LookAtMounts.overfills c.args.world.now in
     let task = task_of c.args.who.now in
-    let options = result_ok c.args.options.now in
-    let flags = flags_of c.args.flags in
+    let options = result_ok c.args.overlay.options.now in
+    let flags = flags_of c.args.overlay.flags in
     let p = err_from_is_err_and c.from_residual.result c.from_residual.ensures.1 in
     rw (p.1, p.2) (refused_before (MountOverlay c.args.path.now options flags) task (judge nat_eq looks overfills task (MountOverlay c.args.path.now options flags)) _
     (nowhere looks task overfills c.args.path.now options flags _ (sym c.lacks.ensures ∙ c.if-lacks.false)
@@ -39,8 +39,8 @@ returns-in_err-layers g c =
     let looks = g.L.Look.looks c.args.world.now in
     let overfills = g.L.LookAtMounts.overfills c.args.world.now in
     let task = task_of c.args.who.now in
-    let options = result_ok c.args.options.now in
-    let flags = flags_of c.args.flags in
+    let options = result_ok c.args.overlay.options.now in
+    let flags = flags_of c.args.overlay.flags in
     let p = err_from_is_err_and c.from_residual-in_err-layers.result c.from_residual-in_err-layers.ensures.1 in
     rw (p.1, p.2) (refused_before (MountOverlay c.args.path.now options flags) task (judge nat_eq looks overfills task (MountOverlay c.args.path.now options flags)) _
     (without_layers looks task overfills c.args.path.now options flags (location_of c.in_ok-destination.destination) _
@@ -51,8 +51,8 @@ returns-then-is_elsewhere g c =
     let looks = g.L.Look.looks c.args.world.now in
     let overfills = g.L.LookAtMounts.overfills c.args.world.now in
     let task = task_of c.args.who.now in
-    let options = result_ok c.args.options.now in
-    let flags = flags_of c.args.flags in
+    let options = result_ok c.args.overlay.options.now in
+    let flags = flags_of c.args.overlay.flags in
     refused_before (MountOverlay c.args.path.now options flags) task (judge nat_eq looks overfills task (MountOverlay c.args.path.now options flags)) _
     (left looks task overfills c.args.path.now options flags (location_of c.in_ok-destination.destination)
     (layers_of c.in_ok-layers.layers) (sym c.lacks.ensures ∙ c.if-lacks.false) c.in_ok-destination.ensures
@@ -64,8 +64,8 @@ returns-in_err-overfills_with_overlay g c =
     let looks = g.L.Look.looks c.args.world.now in
     let overfills = g.L.LookAtMounts.overfills c.args.world.now in
     let task = task_of c.args.who.now in
-    let options = result_ok c.args.options.now in
-    let flags = flags_of c.args.flags in
+    let options = result_ok c.args.overlay.options.now in
+    let flags = flags_of c.args.overlay.flags in
     let place = location_of c.in_ok-destination.destination in
     let permit = ToMountOverlay place (overlay_at looks task (layers_of c.in_ok-layers.layers))
     flags in
@@ -83,8 +83,8 @@ returns-then-branch g c =
     let looks = g.L.Look.looks c.args.world.now in
     let overfills = g.L.LookAtMounts.overfills c.args.world.now in
     let task = task_of c.args.who.now in
-    let options = result_ok c.args.options.now in
-    let flags = flags_of c.args.flags in
+    let options = result_ok c.args.overlay.options.now in
+    let flags = flags_of c.args.overlay.flags in
     let overlay = overlay_at looks task (layers_of c.in_ok-layers.layers) in
     refused_before (MountOverlay c.args.path.now options flags) task (judge nat_eq looks overfills task (MountOverlay c.args.path.now options flags)) _
     (left looks task overfills c.args.path.now options flags (location_of c.in_ok-destination.destination)
@@ -98,8 +98,8 @@ returns-in_err-new g c =
     let looks = g.L.Look.looks c.args.world.now in
     let overfills = g.L.LookAtMounts.overfills c.args.world.now in
     let task = task_of c.args.who.now in
-    let options = result_ok c.args.options.now in
-    let flags = flags_of c.args.flags in
+    let options = result_ok c.args.overlay.options.now in
+    let flags = flags_of c.args.overlay.flags in
     let place = location_of c.in_ok-destination.destination in
     let overlay = overlay_at looks task (layers_of c.in_ok-layers.layers) in
     let p = err_from_is_err_and c.from_residual-in_err-new.result c.from_residual-in_err-new.ensures.1 in
@@ -115,8 +115,8 @@ returns g c =
     let looks = g.L.Look.looks c.args.world.now in
     let overfills = g.L.LookAtMounts.overfills c.args.world.now in
     let task = task_of c.args.who.now in
-    let options = result_ok c.args.options.now in
-    let flags = flags_of c.args.flags in
+    let options = result_ok c.args.overlay.options.now in
+    let flags = flags_of c.args.overlay.flags in
     let overlay = overlay_at looks task (layers_of c.in_ok-layers.layers) in
     left looks task overfills c.args.path.now options flags (location_of c.in_ok-destination.destination)
     (layers_of c.in_ok-layers.layers) (sym c.lacks.ensures ∙ c.if-lacks.false) c.in_ok-destination.ensures

@@ -16,7 +16,7 @@ unfolding judging
 returns-in_ok-file-in-Never g c =
     let looks = g.L.Look.looks c.args.world.now in
     let task = task_of c.args.who.now in
-    let access = access_of c.args.access in
+    let access = access_of c.args.how.access in
     let at = location_of c.in_ok-file-in-Never.file in
     rw c.in-Never.is (answers_without task (judge_by_looks looks task (OpenFile c.args.path.now access NoCreation))
     (open_file_permit looks task at access) c.open_file_permit.result

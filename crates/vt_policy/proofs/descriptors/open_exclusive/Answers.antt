@@ -15,10 +15,10 @@ pub returns : goal.returns
 returns g c =
     let looks = g.L.Look.looks c.args.world.now in
     let task = task_of c.args.who.now in
-    let access = access_of c.args.access in
+    let access = access_of c.args.how.access in
     let at = c.in_ok-place.ensures.ok in
-    answers task (run_by_looks looks task (opens nat_eq looks task c.args.path.now access (Exclusive c.args.mode)))
-    (create_file_permit looks task at.0 access c.args.mode) c.create_file_permit.result
+    answers task (run_by_looks looks task (opens nat_eq looks task c.args.path.now access (Exclusive c.args.how.mode)))
+    (create_file_permit looks task at.0 access c.args.how.mode) c.create_file_permit.result
     (went (walk_end (new_walk nat_eq looks task c.args.path.now)) at.0 _ at.1
     ∙ skipped (is_special at.0.last) E1 _ _ (ap is_special at.2.last ∙ sym c.is_special.ensures ∙ c.if-is_special.false)
     ∙ skipped at.0.slash E2 _ _ (at.2.slash ∙ c.if-place.false) ∙ skipped (is_some at.0.object) E1 _ _

@@ -16,10 +16,10 @@ pub returns-in-None : goal.returns-in-None
 returns-in-None g c =
     let looks = g.L.Look.looks c.args.world.now in
     let task = task_of c.args.who.now in
-    let access = access_of c.args.access in
+    let access = access_of c.args.how.access in
     let at = c.in_ok-place.ensures.ok in
-    answers task (run_by_looks looks task (opens nat_eq looks task c.args.path.now access (OrCreate c.args.mode)))
-    (create_file_permit looks task at.0 access c.args.mode) c.create_file_permit.result
+    answers task (run_by_looks looks task (opens nat_eq looks task c.args.path.now access (OrCreate c.args.how.mode)))
+    (create_file_permit looks task at.0 access c.args.how.mode) c.create_file_permit.result
     (went (walk_end (file_walk nat_eq looks task c.args.path.now)) at.0 _ at.1
     ∙ ap (by_option _ _) (at.2.object ∙ ap (option_map location_of) c.in-None.is)
     ∙ skipped (is_special at.0.last || at.0.slash) E2 _ _

@@ -11,30 +11,30 @@ pub returns-in_err-may_make : goal.returns-in_err-may_make
 returns-in_err-may_make g c meant is =
     let looks = g.L.Look.looks c.args.world.now in
     let task = task_of c.args.who.now in
-    let access = access_of c.args.access in
-    let change = unnumbered meant (new_file task c.args.mode []) in
+    let access = access_of c.args.how.access in
+    let change = unnumbered meant (new_file task c.args.how.mode []) in
     let p = err_from_is_err_and c.from_residual.result c.from_residual.ensures.1 in
-    rw (p.1, p.2) (refused task (create_file_permit looks task meant access c.args.mode) _
-    (unless-stopped (make_rules looks task meant change) (Ok (open_new_permit task meant access c.args.mode)) _
-    (c.in_err-may_make.ensures meant (new_file task c.args.mode []) is.parent)))
+    rw (p.1, p.2) (refused task (create_file_permit looks task meant access c.args.how.mode) _
+    (unless-stopped (make_rules looks task meant change) (Ok (open_new_permit task meant access c.args.how.mode)) _
+    (c.in_err-may_make.ensures meant (new_file task c.args.how.mode []) is.parent)))
 
 pub returns-in_err-name_at : goal.returns-in_err-name_at
 returns-in_err-name_at g c meant is =
     let looks = g.L.Look.looks c.args.world.now in
     let task = task_of c.args.who.now in
-    let access = access_of c.args.access in
-    let change = unnumbered meant (new_file task c.args.mode []) in
+    let access = access_of c.args.how.access in
+    let change = unnumbered meant (new_file task c.args.how.mode []) in
     let p = err_from_is_err_and c.from_residual-in_err-name_at.result c.from_residual-in_err-name_at.ensures.1 in
-    rw (p.1, p.2) (without_memory task (create_file_permit looks task meant access c.args.mode)
-    (open_new_permit task meant access c.args.mode) _
-    (unless-let_through (make_rules looks task meant change) (Ok (open_new_permit task meant access c.args.mode))
-    (c.in_ok-may_make.ensures meant (new_file task c.args.mode []) is.parent)) c.in_err-name_at.ensures.memory)
+    rw (p.1, p.2) (without_memory task (create_file_permit looks task meant access c.args.how.mode)
+    (open_new_permit task meant access c.args.how.mode) _
+    (unless-let_through (make_rules looks task meant change) (Ok (open_new_permit task meant access c.args.how.mode))
+    (c.in_ok-may_make.ensures meant (new_file task c.args.how.mode []) is.parent)) c.in_err-name_at.ensures.memory)
 
 pub returns : goal.returns
 returns g c meant is =
     let looks = g.L.Look.looks c.args.world.now in
     let task = task_of c.args.who.now in
-    let access = access_of c.args.access in
-    let change = unnumbered meant (new_file task c.args.mode []) in
-    unless-let_through (make_rules looks task meant change) (Ok (open_new_permit task meant access c.args.mode))
-    (c.in_ok-may_make.ensures meant (new_file task c.args.mode []) is.parent) ∙ search rules
+    let access = access_of c.args.how.access in
+    let change = unnumbered meant (new_file task c.args.how.mode []) in
+    unless-let_through (make_rules looks task meant change) (Ok (open_new_permit task meant access c.args.how.mode))
+    (c.in_ok-may_make.ensures meant (new_file task c.args.how.mode []) is.parent) ∙ search rules
