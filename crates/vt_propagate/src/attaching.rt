@@ -52,8 +52,8 @@ pub fn attachment(
 {
     let mut indexes = Indexes::empty();
     indexes.note(alloc, graft)?;
-    let copies = copies(alloc, mounts, groups, graft, counts, &indexes)?;
-    let new = new_groups(alloc, mounts, groups, graft, counts, &indexes)?;
+    let copies = copies(mounts, groups, graft, counts, &indexes)?;
+    let new = new_groups(mounts, groups, graft, counts, &indexes)?;
     let points = pushes(mounts, graft, &copies)?;
     Ok(Plan {
         copies,

@@ -44,7 +44,6 @@ pub struct Counts {
 /// receiver. Where a tree moves, those at the destination are the mounts themselves, as they are there. The copy at the
 /// i-th part of the j-th mount of n, both from 0, is the `2·(n·i + j)`-th of the counts.
 pub(crate) fn copies(
-    alloc: Global,
     mounts: &Mounts,
     groups: &Groups,
     graft: &Graft,
@@ -59,6 +58,7 @@ pub(crate) fn copies(
         → map mount_of graft.now.parts.now ≡ parts_of nat_eq world (location_of graft.now.place)
         → map mount_of copies.items ≡ planned_copies world graft.now counts) }
 {
+    let alloc = mounts.alloc();
     let Some(destination) = graft.parts.first() else {
         return Ok(Vec::new(alloc));
     };
@@ -75,7 +75,6 @@ pub(crate) fn copies(
 /// joins a group at a shared destination, and for each mount and each further group that has a part. The group of the
 /// j-th mount of n for the group of the i-th part, both from 0, is the `2·(n·i + j) + 1`-th of the counts.
 pub(crate) fn new_groups(
-    alloc: Global,
     mounts: &Mounts,
     groups: &Groups,
     graft: &Graft,
@@ -88,6 +87,7 @@ pub(crate) fn new_groups(
         → map mount_of graft.now.parts.now ≡ parts_of nat_eq world (location_of graft.now.place)
         → map new_group new.items ≡ planned_groups world graft.now counts) }
 {
+    let alloc = mounts.alloc();
     let Some(destination) = graft.parts.first() else {
         return Ok(Vec::new(alloc));
     };

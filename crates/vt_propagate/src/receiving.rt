@@ -36,7 +36,7 @@ pub fn parts<R: Reach>(
     let alloc = mounts.alloc();
     let parent = mounts.get(place.mount).unwrap();
     let receivers = receivers_of(alloc, groups, parent.propagation)?;
-    with_receivers(alloc, mounts, directories, place, parent, &receivers)
+    with_receivers(mounts, directories, place, parent, &receivers)
 }
 
 /// The mounts that receive what happens on a mount of this type, in order of attachment.
@@ -60,7 +60,6 @@ pub(crate) fn receivers_of(
 // A mount, and those of its receivers that take part. Most receivers have the root of the mount itself: whether that
 // shows the destination is checked once.
 fn with_receivers<R: Reach>(
-    alloc: Global,
     mounts: &Mounts,
     directories: &R,
     place: Location,
@@ -71,7 +70,7 @@ fn with_receivers<R: Reach>(
         ≡ mount_of parent ∷ filter (joins (R.under directories.now) (location_of place) (mount_of parent))
         (mounts_numbered (mounts_in mounts.now) (map mount_number receivers.now))) }
 {
-    let mut parts = Vec::with_capacity(alloc, receivers.len().saturating_add(1))?;
+    let mut parts = Vec::with_capacity(mounts.alloc(), receivers.len().saturating_add(1))?;
     parts.push(parent)?;
     if !has_other(place.mount, receivers) {
         return Ok(parts);
