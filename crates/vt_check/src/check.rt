@@ -118,21 +118,27 @@ pub fn check<W: Write>(
     Ok(is_bad)
 }
 
-/// Appends what is wrong with a line of this number in the file of this name, as text. A run refuses the line by S1, in
-/// this version of the language.
+/// A line of a file, with its number there, from 1.
+#[derive(Clone, Copy)]
+pub struct NumberedLine<'a> {
+    pub number: u64,
+    pub text: &'a [u8],
+}
+
+/// Appends what is wrong with a line of the file of this name, as text. A run refuses the line by S1, in this version of
+/// the language.
 pub fn push_explained(
     text: &mut Draft,
     version: Version,
     alloc: Global,
     name: &str,
-    number: u64,
-    line: &[u8],
+    line: NumberedLine<'_>,
 ) {
     let finding = Finding {
-        line: number,
-        text: line,
+        line: line.number,
+        text: line.text,
         level: Level::Refused,
-        diagnosis: diagnosis(version, alloc, line),
+        diagnosis: diagnosis(version, alloc, line.text),
     };
     text::push_found(text, name, false, &finding);
 }

@@ -72,30 +72,33 @@ fn push_before(
     walks
 }
 
-// Appends what a granted call has changed.
-fn push_effect(
-    asked: Asked<'_>,
-    world: &World,
+// A granted call, where its walks came to, and the mounts before it.
+#[derive(Clone, Copy)]
+struct Granted<'a> {
+    asked: Asked<'a>,
     call: CallKind,
     walks: Walks,
-    before: &Picture,
-    text: &mut Draft,
-) {
-    let mut after = Picture::new(asked.alloc);
+    before: &'a Picture,
+}
+
+// Appends what a granted call has changed.
+fn push_effect(granted: Granted<'_>, world: &World, text: &mut Draft) {
+    let Asked { alloc, format, .. } = granted.asked;
+    let mut after = Picture::new(alloc);
     after.fill(world);
-    if before.failed || after.failed {
+    if granted.before.failed || after.failed {
         text.fail();
     }
     let sides = Sides {
-        call,
-        before,
+        call: granted.call,
+        before: granted.before,
         after: &after,
-        aim: match walks.last_end() {
+        aim: match granted.walks.last_end() {
             Some(end) => Some(end.mount),
             None => None,
         },
     };
-    push_changes(asked.alloc, asked.format, sides, text);
+    push_changes(alloc, format, sides, text);
     after.end();
 }
 
@@ -144,12 +147,17 @@ impl Teller<Kernel> for Explanation<'_> {
         outcome: &Result<Answer, Deny>,
     ) {
         let (asked, world) = (self.asked, kernel.world());
-        let picture = &*self.picture;
         match outcome {
             Ok(_) => {
                 push_head(asked, outcome, &[], None, &mut self.text);
                 self.text.push_draft(&self.before);
-                push_effect(asked, world, kind, self.walks, picture, &mut self.text);
+                let granted = Granted {
+                    asked,
+                    call: kind,
+                    walks: self.walks,
+                    before: &*self.picture,
+                };
+                push_effect(granted, world, &mut self.text);
             }
             Err(deny) => {
                 let refused = Refused {
@@ -157,13 +165,14 @@ impl Teller<Kernel> for Explanation<'_> {
                     world,
                     name: &name,
                     kind,
+                    outcome,
                     rule: deny.rule,
                     walks: self.walks,
                     halt: self.halt.as_slice(),
                     before: &self.before,
-                    picture,
+                    picture: &*self.picture,
                 };
-                push_refused(refused, outcome, &mut self.text);
+                push_refused(refused, &mut self.text);
             }
         }
     }

@@ -57,22 +57,30 @@ fn answer_of(asked: Asked<'_>, outcome: &Result<Answer, Deny>) -> Draft {
     text
 }
 
+// The rule that refuses a line, if one does.
+fn rule_of(outcome: &Result<Answer, Deny>) -> Option<Rule> {
+    match outcome {
+        Ok(_) => None,
+        Err(deny) => Some(deny.rule),
+    }
+}
+
 // Appends the line, its answer, the rule that refuses it, and why, as text.
 fn push_head_text(
     asked: Asked<'_>,
-    answer: &Draft,
-    rule: Option<Rule>,
+    outcome: &Result<Answer, Deny>,
     later: &[Rule],
     told: Option<Told>,
     text: &mut Draft,
 ) {
+    let answer = answer_of(asked, outcome);
     text.push("LINE ");
     text.push_number(asked.line.number);
     text.push(": ");
     text.push_bytes(asked.line.text.trim_ascii_end());
     text.push("\n  answer       ");
-    text.push_draft(answer);
-    if let Some(rule) = rule {
+    text.push_draft(&answer);
+    if let Some(rule) = rule_of(outcome) {
         let page = page_of(rule);
         text.push("\n  rule         ");
         text.push(page.meaning);
@@ -129,15 +137,15 @@ fn put_rule(object: &mut Object, rule: Option<Rule>) {
 // Appends the line, its answer, the rule that refuses it, and why, as an object of JSON and a newline.
 fn push_head_object(
     asked: Asked<'_>,
-    answer: &Draft,
-    rule: Option<Rule>,
+    outcome: &Result<Answer, Deny>,
     later: &[Rule],
     told: Option<Told>,
     text: &mut Draft,
 ) {
-    let cells = [Cell::whole(answer), Cell::Number(asked.line.number)];
+    let answer = answer_of(asked, outcome);
+    let cells = [Cell::whole(&answer), Cell::Number(asked.line.number)];
     let mut object = object_of_kind(asked.alloc, "line", &["answer", "line"], &cells);
-    put_rule(&mut object, rule);
+    put_rule(&mut object, rule_of(outcome));
     object.put("also", names_of(asked.alloc, later));
     object.put("cause", cause_value(told));
     object.put_bytes("text", asked.line.text.trim_ascii_end());
@@ -152,13 +160,8 @@ pub fn push_head(
     told: Option<Told>,
     text: &mut Draft,
 ) {
-    let answer = answer_of(asked, outcome);
-    let rule = match outcome {
-        Ok(_) => None,
-        Err(deny) => Some(deny.rule),
-    };
     match asked.format {
-        Format::Text => push_head_text(asked, &answer, rule, later, told, text),
-        Format::Json => push_head_object(asked, &answer, rule, later, told, text),
+        Format::Text => push_head_text(asked, outcome, later, told, text),
+        Format::Json => push_head_object(asked, outcome, later, told, text),
     }
 }

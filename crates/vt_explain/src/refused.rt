@@ -27,6 +27,8 @@ pub struct Refused<'a> {
     /// Who calls, and what.
     pub name: &'a TaskName,
     pub kind: CallKind,
+    /// Its answer, and the rule that refuses it.
+    pub outcome: &'a Result<Answer, Deny>,
     pub rule: Rule,
     /// Where the walks along the paths of the call came to, and the last word of the first that leads nowhere.
     pub walks: Walks,
@@ -155,30 +157,23 @@ fn push_why(
     cause: &Cause<'_>,
     later: &[Rule],
     earlier: &Earlier<'_>,
-    outcome: &Result<Answer, Deny>,
     text: &mut Draft,
 ) {
     let asked = refused.asked;
     match told_since(asked, refused.world, refused.picture, cause, earlier) {
-        Ok(told) => push_head(asked, outcome, later, Some(told), text),
+        Ok(told) => push_head(asked, refused.outcome, later, Some(told), text),
         Err(_) => text.fail(),
     }
 }
 
 // Appends what is told of a refused call.
-fn push_of_call(
-    refused: Refused<'_>,
-    call: &Call<'_>,
-    later: &[Rule],
-    outcome: &Result<Answer, Deny>,
-    text: &mut Draft,
-) {
+fn push_of_call(refused: Refused<'_>, call: &Call<'_>, later: &[Rule], text: &mut Draft) {
     let asked = refused.asked;
     let cause = why(refused, call);
     let earlier = earlier_lines(asked.version, asked.alloc, asked.line.before, cause);
     match &cause {
-        Some(cause) => push_why(refused, cause, later, &earlier, outcome, text),
-        None => push_head(asked, outcome, later, None, text),
+        Some(cause) => push_why(refused, cause, later, &earlier, text),
+        None => push_head(asked, refused.outcome, later, None, text),
     }
     text.push_draft(refused.before);
     push_tables(refused, later, &earlier, text);
@@ -186,22 +181,16 @@ fn push_of_call(
 }
 
 // The same of a line as a run reads it, which is a call.
-fn push_of_line(
-    refused: Refused<'_>,
-    read: &Option<Line<'_>>,
-    later: &[Rule],
-    outcome: &Result<Answer, Deny>,
-    text: &mut Draft,
-) {
+fn push_of_line(refused: Refused<'_>, read: &Option<Line<'_>>, later: &[Rule], text: &mut Draft) {
     match read {
-        Some(Line::Call(_, call)) => push_of_call(refused, call, later, outcome, text),
+        Some(Line::Call(_, call)) => push_of_call(refused, call, later, text),
         _ => text.fail(),
     }
 }
 
 /// Appends what is told of a refused call: why, who calls, where its paths lead, and of some rules who holds, locks or
 /// mounted what is in the way.
-pub fn push_refused(refused: Refused<'_>, outcome: &Result<Answer, Deny>, text: &mut Draft) {
+pub fn push_refused(refused: Refused<'_>, text: &mut Draft) {
     let asked = refused.asked;
     let Ok(later) = later_of(refused) else {
         return text.fail();
@@ -209,7 +198,7 @@ pub fn push_refused(refused: Refused<'_>, outcome: &Result<Answer, Deny>, text: 
     let mut texts = None;
     match reading(asked.version, asked.alloc, asked.line.text, &mut texts) {
         Ok(read) => {
-            push_of_line(refused, &read, &later, outcome, text);
+            push_of_line(refused, &read, &later, text);
             free(read);
         }
         Err(_) => text.fail(),

@@ -2,7 +2,7 @@
 use crate::compare::{Difference, is_refused};
 use crate::suite::{Answer, Script};
 use std::alloc::{AllocError, Global};
-use vt_check::check::push_explained;
+use vt_check::check::{NumberedLine, push_explained};
 use vt_check::draft::Draft;
 use vt_check::report::line_at;
 use vt_wanted::entry::without_end;
@@ -45,8 +45,11 @@ fn push_difference(
     script: &Script<'_>,
     found: &Difference<'_>,
 ) {
-    let number = script.before.saturating_add(found.number);
-    let line = line_of(script, found.number);
+    let line = NumberedLine {
+        number: script.before.saturating_add(found.number),
+        text: line_of(script, found.number),
+    };
+    let number = line.number;
     text.push_margin(number, "--> ");
     text.push(file);
     text.push_char(':');
@@ -55,12 +58,12 @@ fn push_difference(
     text.push_margin(number, " |\n");
     text.push_number(number);
     text.push(" | ");
-    text.push_bytes(line);
+    text.push_bytes(line.text);
     text.push_char('\n');
     push_answers(text, number, " | - ", found.wanted);
     push_answers(text, number, " | + ", found.given);
     if is_refused(found.given) {
-        push_explained(text, script.version, alloc, file, number, line);
+        push_explained(text, script.version, alloc, file, line);
     }
 }
 
