@@ -1,6 +1,6 @@
 -- The tasks that the words of a directive name.
-use Rattle.std.proofs.Common.{◌≡◌, ◌≤◌, ◌<◌, ◌&&◌, ℕ, Bool, true, false, cond, List, [], ◌∷◌, length, Option, None, Some, is_some, nat_le, option_map, refl, sym, subst, ap, ◌∙◌, arith, IsSomeAnd}
-use Rattle.vt_spec.proofs.Common.{AskSealed, Directive, each_of, nat_tests, task_word, with_first}
+use Rattle.std.proofs.Common.{◌≡◌, ◌&&◌, ℕ, Bool, true, false, cond, List, ◌∷◌, length, Option, None, Some, is_some, nat_le, option_map, refl, sym, subst, ap, ◌∙◌, IsSomeAnd}
+use Rattle.vt_spec.proofs.Common.{AskSealed, Directive, each_of, task_word, with_first}
 use Rattle.vt_spec.specs.Language.Script.{some_tasks}
 use Rattle.vt_line.specs.Calls.{KeepsNames}
 

@@ -1,5 +1,6 @@
 pub mod CallLemmas
 pub mod DirectiveLemmas
+pub mod Escapes
 pub mod ListingLemmas
 pub mod NumberLemmas
 pub mod PeerLemmas

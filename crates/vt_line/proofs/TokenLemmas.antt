@@ -98,14 +98,15 @@ tokens-length (byte ∷ bytes) =
 abbrev pub all_plain : List ℕ → Bool
 all_plain text = list_all is_plain text
 
-plain-step : (plain escape : Bool) (byte : ℕ) (bytes : List ℕ) → plain ≡ true → escape ≡ false →
-    spelled Between bytes ≡ Some bytes → with_completed (cond plain (Some byte) None)
-    (spelled (cond escape AfterBackslash (cond plain Between Failed)) bytes) ≡ Some (byte ∷ bytes)
-plain-step true false byte bytes e f rest = ap (option_map (λ bytes. byte ∷ bytes)) rest
-plain-step true true byte bytes e f rest = cc
-plain-step false escape byte bytes e f rest = cc
+pub plain-step : (plain escape : Bool) (byte : ℕ) (bytes : List ℕ) → plain ≡ true → escape ≡ false
+    → with_completed (cond plain (Some byte) None)
+    (spelled (cond escape AfterBackslash (cond plain Between Failed)) bytes)
+    ≡ option_map (λ rest. byte ∷ rest) (spelled Between bytes)
+plain-step true false byte bytes e f = refl
+plain-step true true byte bytes e f = cc
+plain-step false escape byte bytes e f = cc
 
-not_escape : (a b escape : Bool) → (a && b && not escape) ≡ true → escape ≡ false
+pub not_escape : (a b escape : Bool) → (a && b && not escape) ≡ true → escape ≡ false
 not_escape a b false e = refl
 not_escape true true true e = cc
 not_escape true false true e = cc
@@ -116,7 +117,8 @@ plain-spelled [] e = refl
 plain-spelled (byte ∷ bytes) e =
     let parts = and_parts (is_plain byte) (all_plain bytes) e in
     plain-step (is_plain byte) (eqb byte 92) byte bytes parts.0
-    (not_escape (leb 33 byte) (leb byte 126) (eqb byte 92) parts.0) (plain-spelled bytes parts.1)
+    (not_escape (leb 33 byte) (leb byte 126) (eqb byte 92) parts.0)
+    ∙ ap (option_map (λ rest. byte ∷ rest)) (plain-spelled bytes parts.1)
 
 plain-text : (token : List ℕ) → all_plain token ≡ true → token_text token ≡ Some token
 plain-text token e = by_test (bytes_eq token (codes "\\e")) refl where

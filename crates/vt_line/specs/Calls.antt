@@ -1,5 +1,5 @@
 -- Calls as their words are read, and what becomes of a line that asks for one.
-use Rattle.std.specs.Prelude.{List, None, Option, Some, length, option_map, true, ℕ, ⊤, ◌<◌, ◌≡◌, ◌⊎◌, IsSomeAnd, Result, Ok, Err}
+use Rattle.std.specs.Prelude.{List, None, Option, Some, length, option_map, ℕ, ⊤, ◌<◌, ◌≡◌, ◌⊎◌, IsSomeAnd, Result, Ok, Err}
 use Rattle.vt_spec.specs.Language.Calls as spec
 use Rattle.vt_spec.specs.Language.Calls.Call.{Fork, Pwrite, Setns, Write}
 use Rattle.vt_spec.specs.Language.Calls.Directive.{AskPeers, AskSealed}

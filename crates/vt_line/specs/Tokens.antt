@@ -1,20 +1,9 @@
--- The texts of a line, free of capacities, and how a token's bytes are read.
+-- The texts of a line, free of capacities.
 use Rattle.std.specs.Prelude.{List, None, Option, Some, [], drop, if◌then◌else◌, length, nat_le, take, ℕ, ◌∷◌}
 use denote.Ref.{Bor}
-use Rattle.vt_spec.specs.Language.Script as spec
 use Rattle.vt_spec.specs.Language.Script.{each_of, raw_tokens, token_text}
 use Rattle.vt_spec.specs.Lists.{first_of_list, then_some}
-use Rattle.vt_line.specs.declared.token.Reading.{Reading}
-use Rattle.vt_line.specs.declared.token.Reading.TheVariants.{Between, AfterBackslash, AfterX, AfterHigh, Failed}
 use Rattle.vt_line.specs.declared.token.TheConstants.{MOST_TEXTS}
-
--- where a reading stands, in the grammar's words
-abbrev pub reading_of : Reading → spec.Reading
-reading_of Between = spec.Reading.Between
-reading_of AfterBackslash = spec.Reading.AfterBackslash
-reading_of AfterX = spec.Reading.AfterX
-reading_of (AfterHigh digit) = spec.Reading.AfterHigh digit
-reading_of Failed = spec.Reading.Failed
 
 -- the texts of a line, if each token spells one and they are not too many for any call
 abbrev pub few_texts : List ℕ → Option (List (List ℕ))

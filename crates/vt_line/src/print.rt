@@ -1,8 +1,7 @@
 //! How answers are printed, without taking memory.
 ghost use Rattle.std.specs.List.{flat_map};
-ghost use Rattle.std.specs.Prelude.{if◌then◌else◌, ◌≡◌, ◌+◌, ◌/◌, ◌%◌, ◌^◌, ◌<◌, [], ◌∷◌, ◌++◌, codes, decimal, false, length, slice_index, All, IsTrue, IfErr};
+ghost use Rattle.std.specs.Prelude.{if◌then◌else◌, ◌≡◌, ◌+◌, ◌/◌, ◌%◌, ◌^◌, ◌<◌, [], ◌∷◌, ◌++◌, codes, decimal, IfErr};
 ghost use Rattle.vt_spec.specs.Language.Printed.{hex_digit, owner_words, printed_byte, printed_line, printed_mode, printed_rows, printed_text, printed_value, reply_line, spaced, stat_words};
-ghost use Rattle.vt_spec.specs.Language.Script.{is_plain};
 ghost use Rattle.vt_io.specs.Sink.{Prints};
 ghost use Rattle.vt_request.specs.Answers.{answer_of, result_of, stat_line_of};
 ghost use Rattle.vt_line.specs.Printing.{further_words, kind_text, printed_names, printed_numbers, reply_words};
@@ -12,23 +11,13 @@ use crate::hex::HexDigit;
 use crate::listing::write_mounts;
 use crate::peers::write_peers;
 use crate::refusal::error_text;
-use crate::token::is_plain;
+use crate::token::split_plain;
 use itoa::Buffer;
 use vt_io::output::{Sink, SinkFailed};
 use vt_io::writing::{write_all, write_parts};
 use vt_request::{Answer, StatLine, TaskName};
 use vt_spec::attributes::{Attr, Kind, Mode};
 use vt_spec::errors::Deny;
-
-/// The longest front of bytes that are printed as they are, and what follows it.
-fn split_plain(text: &[u8]) -> (&[u8], &[u8])
-    ensures whole { result.0.now ++ result.1.now ≡ text.now }
-    ensures plain { All (λ byte. IsTrue (is_plain byte)) result.0.now }
-    ensures stops { 0 < length result.1.now → is_plain (slice_index result.1.now 0) ≡ false }
-{
-    let plain = text.iter().position(|byte| !is_plain(*byte));
-    text.split_at(plain.unwrap_or(text.len()))
-}
 
 /// The escape `\xhh` of a byte.
 fn write_escape<W: Sink>(sink: &mut W, byte: u8) -> Result<(), SinkFailed>

@@ -1,9 +1,10 @@
 //! The tokens of a line, and the texts that they spell.
-ghost use Rattle.std.specs.Prelude.{◌≡◌, ◌≢◌, ◌+◌, ◌≤◌, ◌<◌, ◌||◌, ◌==◌, ◌++◌, ◌∷◌, [], ℕ, Some, None, length, option_map, slice_index, cond, sum, true, IfSome, MatchOption};
+ghost use Rattle.std.specs.Prelude.{◌≡◌, ◌≢◌, ◌+◌, ◌≤◌, ◌<◌, ◌||◌, ◌==◌, ◌++◌, ◌∷◌, [], ℕ, Some, None, false, length, option_map, slice_index, cond, sum, true, All, IfSome, IsTrue, MatchOption};
 ghost use Rattle.std.specs.List.{list_all};
-ghost use Rattle.vt_spec.specs.Language.Script.{is_silent, is_plain, raw_tokens, token_text, each_of, next_reading, completed};
+ghost use Rattle.vt_spec.specs.Language.Script.{is_silent, is_plain, raw_tokens, spelled, token_text, each_of};
+ghost use Rattle.vt_spec.specs.Language.Script.Reading.{AfterX, Between};
 ghost use Rattle.vt_spec.specs.Lists.{is_empty_list};
-ghost use Rattle.vt_line.specs.Tokens.{cut, few_texts, reading_of};
+ghost use Rattle.vt_line.specs.Tokens.{cut, few_texts};
 
 use crate::hex::HexDigit;
 use arrayvec::ArrayVec;
@@ -38,47 +39,40 @@ pub fn is_plain(byte: u8) -> bool
     matches!(byte, 0x21..=0x7e) && byte != b'\\'
 }
 
-/// Where the reading of a token stands: between bytes, in an escape `\xhh`, or at a fault.
-#[derive(Clone, Copy, PartialEq, Eq)]
-pub enum Reading {
-    Between,
-    AfterBackslash,
-    AfterX,
-    AfterHigh(HexDigit),
-    Failed,
+/// The longest front of bytes that stand for themselves, and what follows it.
+pub fn split_plain(text: &[u8]) -> (&[u8], &[u8])
+    ensures whole { result.0.now ++ result.1.now ≡ text.now }
+    ensures plain { All (λ byte. IsTrue (is_plain byte)) result.0.now }
+    ensures stops { 0 < length result.1.now → is_plain (slice_index result.1.now 0) ≡ false }
+{
+    let plain = text.iter().position(|byte| !is_plain(*byte));
+    text.split_at(plain.unwrap_or(text.len()))
 }
 
-impl Reading {
-    /// The reading after one more byte.
-    fn after(self, byte: u8) -> Self
-        ensures { reading_of result ≡ next_reading (reading_of self) byte }
-    {
-        match self {
-            Reading::Between if byte == b'\\' => Reading::AfterBackslash,
-            Reading::Between if is_plain(byte) => Reading::Between,
-            Reading::AfterBackslash if byte == b'x' => Reading::AfterX,
-            Reading::AfterX => match HexDigit::from_byte(byte) {
-                Some(high) => Reading::AfterHigh(high),
-                None => Reading::Failed,
-            },
-            Reading::AfterHigh(_) => match HexDigit::from_byte(byte) {
-                Some(_) => Reading::Between,
-                None => Reading::Failed,
-            },
-            _ => Reading::Failed,
-        }
-    }
+/// The byte that the two digits at a text's front make, and what follows them.
+#[inline(always)]
+fn split_digits(text: &[u8]) -> Option<(u8, &[u8])>
+    ensures spelled { MatchOption result (spelled AfterX text.now ≡ None)
+        (λ parts. spelled AfterX text.now ≡ option_map (λ bytes. parts.0 ∷ bytes) (spelled Between parts.1.now)) }
+    ensures shorter { IfSome result (λ parts. length parts.1.now < length text.now) }
+{
+    let (high, rest) = text.split_first()?;
+    let high = HexDigit::from_byte(*high)?;
+    let (low, rest) = rest.split_first()?;
+    let low = HexDigit::from_byte(*low)?;
+    Some((high.with_low(low), rest))
+}
 
-    /// The byte of the text that one more byte of the token completes.
-    fn completed(self, byte: u8) -> Option<u8>
-        ensures { result ≡ completed (reading_of self) byte }
-    {
-        match self {
-            Reading::Between if is_plain(byte) => Some(byte),
-            Reading::AfterHigh(high) => Some(high.with_low(HexDigit::from_byte(byte)?)),
-            _ => None,
-        }
-    }
+/// The byte of the escape `\xhh` at a text's front, and what follows it.
+#[inline(always)]
+fn split_escape(text: &[u8]) -> Option<(u8, &[u8])>
+    requires some { 0 < length text.now }
+    requires stops { is_plain (slice_index text.now 0) ≡ false }
+    ensures spelled { MatchOption result (spelled Between text.now ≡ None)
+        (λ parts. spelled Between text.now ≡ option_map (λ bytes. parts.0 ∷ bytes) (spelled Between parts.1.now)) }
+    ensures shorter { IfSome result (λ parts. length parts.1.now < length text.now) }
+{
+    split_digits(text.strip_prefix(b"\\x".as_slice())?)
 }
 
 /// Whether a byte of a line is a space, or stands for itself in a token.
@@ -184,7 +178,8 @@ impl Model for Unescaped {
     ghost invariant = { λ u. sum u.sizes.items ≡ length u.bytes.items };
 }
 
-/// Appends the text that a token spells, if it spells one; `\e` is the empty text.
+/// Appends the text that a token spells, if it spells one; `\e` is the empty text. Bytes that stand for themselves are
+/// copied together.
 fn unescape(token: &[u8], text: &mut ArrayVec<u8, LONGEST_LINE>) -> bool
     requires { length text.old.items + length token.now ≤ LONGEST_LINE }
     ensures value { cond result (Some text.new.items) None
@@ -194,14 +189,21 @@ fn unescape(token: &[u8], text: &mut ArrayVec<u8, LONGEST_LINE>) -> bool
     if token == b"\\e".as_slice() {
         return true;
     }
-    let mut reading = Reading::Between;
-    for byte in token {
-        if let Some(done) = reading.completed(*byte) {
-            text.push(done);
+    let mut rest = token;
+    loop {
+        let (plain, others) = split_plain(rest);
+        let Ok(()) = text.try_extend_from_slice(plain) else {
+            unreachable!()
+        };
+        if others.is_empty() {
+            return true;
         }
-        reading = reading.after(*byte);
+        let Some((byte, after)) = split_escape(others) else {
+            return false;
+        };
+        text.push(byte);
+        rest = after;
     }
-    reading == Reading::Between
 }
 
 /// Appends the texts that a line's tokens spell, unless one spells none, or there are more than a line of the grammar has.
