@@ -36,6 +36,17 @@ UsesGoAbove =
     ++ layers_let_go (without_dead_mounts nat_eq after) world) filesystem (lowered (unnamed_pins world) world)
     (in_use_of (lowered (unnamed_pins (settled nat_eq after)) after))
 
+-- So it is where the exchange up to what is in use is told of worlds in which overlays pin nothing: there they take their
+-- layers along.
+abbrev pub UsesGoBesidePins : Type 0
+UsesGoBesidePins =
+    (world after : World ℕ) (gained lost : List Inode) (filesystem : ℕ) → IsWorld nat_eq world → IsUnderWay after
+    → OverlayInvariants nat_eq after → after.filesystems ≡ world.filesystems
+    → is_overlay (filesystem_numbered nat_eq world filesystem) ≡ false
+    → Exchanges gained lost filesystem (lowered no_pins world) (lowered no_pins (in_use_of after))
+    → Exchanges gained (lost ++ map inode_of_layer (pins_let_go (settled nat_eq after) world)) filesystem
+    (lowered (unnamed_pins world) world) (in_use_of (lowered (unnamed_pins (settled nat_eq after)) after))
+
 -- An exchange does not depend on an order.
 abbrev pub ExchangesHaveNoOrder : Type 0
 ExchangesHaveNoOrder =

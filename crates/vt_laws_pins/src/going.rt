@@ -1,5 +1,5 @@
 //! What goes with the last location on it, and with the last mount of an overlay, counted in the lowered world.
-ghost use Rattle.vt_laws_pins.specs.Above.{ExchangesHaveNoOrder, UsesGoAbove};
+ghost use Rattle.vt_laws_pins.specs.Above.{ExchangesHaveNoOrder, UsesGoAbove, UsesGoBesidePins};
 ghost use Rattle.vt_laws_pins.specs.Counted.{LetGoAreCounted};
 ghost use Rattle.vt_laws_pins.specs.Gone.{PinsGoWithTheirInodes};
 
@@ -11,11 +11,13 @@ pub fn pins_go_with_their_inodes()
 
 /// Where mounts and tasks change alone in a world with all invariants, and the sweep takes what nothing uses then, uses go
 /// so in the lowered worlds (`uses`): what mounts and tasks exchange, pins with their inodes, layers with their overlays.
+/// What is exchanged where overlays pin nothing, up to what is in use, is exchanged beside the pins (`beside`).
 ///
 /// It is said of a plain filesystem that stays, in whatever `order` uses come and go. So `uses_above_are_counted` says what
 /// is counted then.
 pub fn uses_go_above()
     ensures uses { UsesGoAbove }
+    ensures beside { UsesGoBesidePins }
     ensures order { ExchangesHaveNoOrder }
 {}
 

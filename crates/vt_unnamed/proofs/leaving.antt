@@ -2,6 +2,9 @@
 pub mod Alike
 pub mod LayersAlong
 pub mod PathsBorn
+pub mod NodesKept
+pub mod KeptStand
 pub mod NodesLeft
 pub mod Shown
 pub mod ReadOnly
+pub mod StoresLeft

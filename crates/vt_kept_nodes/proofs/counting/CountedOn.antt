@@ -4,7 +4,7 @@ use Rattle.vt_spec.proofs.Common.{Among, all_from_among, among_from_all}
 use Rattle.vt_births.specs.declared.upper_nodes.UpperNodes.{UpperNodes}
 use Rattle.vt_location.specs.declared.locations.NodeRef.{NodeRef}
 use Rattle.vt_location.specs.declared.numbers.FilesystemId.{FilesystemId}
-use Rattle.vt_location.specs.Locations.{number_of}
+use Rattle.vt_location.specs.Locations.{is_small_node, number_of}
 use Rattle.vt_location.specs.Numbers.{counted}
 use Rattle.vt_location.proofs.NumberLemmas.{counted_test}
 use Rattle.vt_layered.specs.LayeredValue.{Above}
@@ -13,7 +13,7 @@ use Rattle.vt_layered.specs.Pins.{IsPinned, IsUnpinned, with_nodes}
 use Rattle.vt_layered.proofs.LocationsCounted.{locations_come, locations_go, pinned_used, unpinned_used}
 use Rattle.vt_store.specs.OverlaysValue.{OverlayEntry, Overlays}
 use Rattle.vt_store.specs.Pins.{ChangesOverlay}
-use Rattle.vt_kept_nodes.specs.Counted.{AreApart, CountNodes, CountsAbove, CountsNodes, Located, PinsAreCounted, Unnamed, UnpinsAreCounted, located_by}
+use Rattle.vt_kept_nodes.specs.Counted.{AreApart, CountNodes, CountsAbove, CountsNodes, Located, PinsAreCounted, Unnamed, UnpinsAreCounted, located_by, with_location_on, without_location_on}
 use Rattle.vt_kept_nodes.proofs.counting.Changed.{each_changed, pins_change, unpins_change}
 use Rattle.vt_kept_nodes.proofs.forgetting.Forgotten.{births_stay_one_to_one, last_uses_are_forgotten, pins_forget_nothing}
 
@@ -78,10 +78,15 @@ module _ (unnamed : Unnamed) (on : Located) (node : NodeRef) (by_one : (ℕ → 
             (step entry.count entry.overlay.number above.nodes nodes e changes
             (subst (CountsAbove unnamed on entry) has (before entry m)))
 
-pub pins_are_counted : PinsAreCounted
-pins_are_counted unnamed on node old new small apart counts there is =
-    all_counted unnamed on node (with_one_on (number_of node)) (IsPinned node) one old.overlays new.overlays apart counts
-    (pins_change node old new is)
+-- where a node is pinned, and where it is unpinned
+pub overlays_pinned : (unnamed : Unnamed) (on : Located) (node : NodeRef) (old new : Overlays)
+    → is_small_node node ≡ true → AreApart old → CountNodes unnamed on old
+    → (unnamed (counted node.filesystem.count) (number_of node) ≡ true
+    → 0 < on (counted node.filesystem.count) (number_of node))
+    → ChangesOverlay (IsPinned node) node.filesystem.count old new
+    → CountNodes unnamed (with_location_on node on) new
+overlays_pinned unnamed on node old new small apart counts there is =
+    all_counted unnamed on node (with_one_on (number_of node)) (IsPinned node) one old new apart counts is
   where
     one : (count : ℕ) (overlay : FilesystemId) (before after : UpperNodes) → nat_eq node.filesystem.count count ≡ true
         → IsPinned node before after → CountsNodes unnamed on count overlay before
@@ -98,10 +103,12 @@ pins_are_counted unnamed on node old new small apart counts there is =
           (eqb-true node.filesystem.count count e) there));
     }
 
-pub unpins_are_counted : UnpinsAreCounted
-unpins_are_counted unnamed on node old new small apart counts is =
-    all_counted unnamed on node (without_one_on (number_of node)) (IsUnpinned node) one old.overlays new.overlays apart
-    counts (unpins_change node old new is)
+pub overlays_unpinned : (unnamed : Unnamed) (on : Located) (node : NodeRef) (old new : Overlays)
+    → is_small_node node ≡ true → AreApart old → CountNodes unnamed on old
+    → ChangesOverlay (IsUnpinned node) node.filesystem.count old new
+    → CountNodes unnamed (without_location_on node on) new
+overlays_unpinned unnamed on node old new small apart counts is =
+    all_counted unnamed on node (without_one_on (number_of node)) (IsUnpinned node) one old new apart counts is
   where
     one : (count : ℕ) (overlay : FilesystemId) (before after : UpperNodes) → nat_eq node.filesystem.count count ≡ true
         → IsUnpinned node before after → CountsNodes unnamed on count overlay before
@@ -116,3 +123,11 @@ unpins_are_counted unnamed on node old new small apart counts is =
           (locations_go overlay (unnamed (counted count)) (on (counted count)) node before after small
           (is_own unnamed on node (without_one_on (number_of node)) count overlay e was.own) was.counts unpinned);
     }
+
+pub pins_are_counted : PinsAreCounted
+pins_are_counted unnamed on node old new small apart counts there is =
+    overlays_pinned unnamed on node old.overlays new.overlays small apart counts there (pins_change node old new is)
+
+pub unpins_are_counted : UnpinsAreCounted
+unpins_are_counted unnamed on node old new small apart counts is =
+    overlays_unpinned unnamed on node old.overlays new.overlays small apart counts (unpins_change node old new is)

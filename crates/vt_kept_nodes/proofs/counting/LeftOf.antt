@@ -9,7 +9,7 @@ use Rattle.vt_layered.specs.LayeredValue.{Above}
 use Rattle.vt_layered.specs.Pins.{IsPinned, IsUnpinned, with_nodes}
 use Rattle.vt_store.specs.OverlaysValue.{OverlayEntry, Overlays}
 use Rattle.vt_store.specs.Pins.{ChangesOverlay}
-use Rattle.vt_kept_nodes.specs.Counted.{AreApart, CountsAbove}
+use Rattle.vt_kept_nodes.specs.Counted.{AreApart, CountNodes, CountsAbove, Located, Unnamed}
 use Rattle.vt_kept_nodes.specs.Forgetting.{Forgets, is_gone}
 use Rattle.vt_kept_nodes.specs.Left.{AboveForgets, AreLeftOf, IsLeftOf, LeavingGoesOn, PinsLeaveOverlays, UnpinsLeaveOverlays}
 use Rattle.vt_kept_nodes.proofs.counting.Changed.{each_changed, having, pins_change, unpins_change}
@@ -52,19 +52,27 @@ module _ (change : UpperNodes → UpperNodes → Type 0) (count : ℕ) (old new 
             (refl, forgets entry above nodes m has is);
       }
 
+pub overlays_left_pinned : (node : NodeRef) (old new : Overlays) → AreApart old
+    → ChangesOverlay (IsPinned node) node.filesystem.count old new → AreLeftOf old new
+overlays_left_pinned node old new apart = left_changed (IsPinned node) node.filesystem.count old new apart
+    (λ entry above nodes m has pinned. pins_forget_nothing node above.nodes nodes pinned)
+
+pub overlays_left_unpinned : (unnamed : Unnamed) (on : Located) (node : NodeRef) (old new : Overlays) → AreApart old
+    → CountNodes unnamed on old → ChangesOverlay (IsUnpinned node) node.filesystem.count old new → AreLeftOf old new
+overlays_left_unpinned unnamed on node old new apart counts =
+    left_changed (IsUnpinned node) node.filesystem.count old new apart
+    (λ entry above nodes m has unpinned.
+    let was = subst (CountsAbove unnamed on entry) has
+    (among_from_all (λ (one : OverlayEntry). CountsAbove unnamed on one one.above) old counts entry m) in
+    last_uses_are_forgotten node above.nodes nodes was.used was.births unpinned)
+
 pub pins_leave_overlays : PinsLeaveOverlays
 pins_leave_overlays node old new apart is =
-    left_changed (IsPinned node) node.filesystem.count old.overlays new.overlays apart
-    (λ entry above nodes m has pinned. pins_forget_nothing node above.nodes nodes pinned)
-    (pins_change node old new is)
+    overlays_left_pinned node old.overlays new.overlays apart (pins_change node old new is)
 
 pub unpins_leave_overlays : UnpinsLeaveOverlays
 unpins_leave_overlays unnamed on node old new apart counts is =
-    left_changed (IsUnpinned node) node.filesystem.count old.overlays new.overlays apart
-    (λ entry above nodes m has unpinned.
-    let was = subst (CountsAbove unnamed on entry) has
-    (among_from_all (λ (one : OverlayEntry). CountsAbove unnamed on one one.above) old.overlays counts entry m) in
-    last_uses_are_forgotten node above.nodes nodes was.used was.births unpinned) (unpins_change node old new is)
+    overlays_left_unpinned unnamed on node old.overlays new.overlays apart counts (unpins_change node old new is)
 
 above_goes_on : (first mid last : Option Above) → AboveForgets first mid → AboveForgets mid last
     → AboveForgets first last

@@ -2,7 +2,7 @@
 use Rattle.std.proofs.Common.{arith, ◌≡◌, refl, sym, ap, subst, ◌∙◌, inl, inr, ℕ, ◌+◌, nat_eq, nat_lt, lt-ltb, ltb-true, Bool, true, false, cond, not, List, [], ◌∷◌, ◌++◌, map, filter, flat_map, Option, Some, None, is_some, option_map, append-nil, All}
 use Rattle.vt_spec.proofs.Common.{Among, Filesystem, IsWorld, Layer, Overlay, OverlayInvariants, World, all_from_among, among_from_all, filesystem_lives, filesystem_numbered, is_overlay, list_any, overlay_or, settled}
 use Rattle.vt_spec.specs.Machine.Settled.{without_dead_mounts}
-use Rattle.vt_laws_mounts.specs.Counts.Using.{Exchanges}
+use Rattle.vt_laws_mounts.specs.Counts.Using.{Exchanges, is_inode}
 use Rattle.vt_laws_mounts.specs.LettingGo.Counts.{times}
 use Rattle.vt_laws_mounts.specs.LettingGo.OneByOne.{Inode}
 use Rattle.vt_laws_mounts.specs.LettingGo.Overlays.{used_by_filesystem}
@@ -10,14 +10,15 @@ use Rattle.vt_laws_mounts.specs.LettingGo.TreesOverlays.{in_use_of}
 use Rattle.vt_laws_mounts.proofs.letting_go.Lists.{any_counted}
 use Rattle.vt_laws_mounts.proofs.counts.overlays.FilesystemUses.{overlays_take_their_uses}
 use Rattle.vt_laws_mounts.proofs.counts.using.Places.{exchanges_follow}
+use Rattle.vt_laws_mounts.proofs.letting_go.sweeps.UpperUses.{times_append}
 use Rattle.vt_laws_worlds.specs.Worlds.Kept.{IsUnderWay}
-use Rattle.vt_laws_upper_layers.specs.Lowered.{Pins, PinsInLayers, all_pins, inode_of_layer, is_at, lowered, lowered_filesystem, lowered_overlay, pins_of}
+use Rattle.vt_laws_upper_layers.specs.Lowered.{Pins, PinsInLayers, all_pins, inode_of_layer, is_at, lowered, lowered_filesystem, lowered_overlay, no_pins, pins_of}
 use Rattle.vt_laws_upper_layers.specs.UnnamedPins.{unnamed_pins}
 use Rattle.vt_laws_upper_layers.proofs.counted.Uses.{exchanges_are_lowered}
 use Rattle.vt_laws_upper_layers.proofs.lowered.Counted.{numbered-lowered, pins_are_exchanged}
 use Rattle.vt_laws_upper_layers.proofs.lowered.Swept.{filesystems_go, lives_same}
 use Rattle.vt_laws_upper_layers.proofs.lowered.Unnamed.{unnamed_are_pinned}
-use Rattle.vt_laws_pins.specs.Above.{ExchangesHaveNoOrder, UsesGoAbove, layers_let_go, layers_used}
+use Rattle.vt_laws_pins.specs.Above.{ExchangesHaveNoOrder, UsesGoAbove, UsesGoBesidePins, layers_let_go, layers_used}
 use Rattle.vt_laws_pins.specs.Gone.{let_go_in, pins_let_go}
 use Rattle.vt_laws_pins.proofs.going.Gone.{dead_pins, one_splits, pins_go_with_their_inodes}
 
@@ -210,3 +211,110 @@ module _ (world after : World ℕ) (is : IsWorld nat_eq world) (under : IsUnderW
 pub uses_go_above : UsesGoAbove
 uses_go_above world after gained lost filesystem is under are same plain stays exchanges =
     go_above world after is under are same gained lost filesystem plain stays exchanges
+
+-- Where overlays pin nothing
+
+-- what gives nothing may be left out
+flat_map_dropped : {A B : Type 0} (g : A → List B) (q : A → Bool) (all : List A)
+    → ((a : A) → Among a all → q a ≡ false → g a ≡ []) → flat_map g (filter q all) ≡ flat_map g all
+flat_map_dropped g q [] none = refl
+flat_map_dropped g q (a ∷ rest) none = by (q a) refl (flat_map_dropped g q rest (λ b m. none b (inr m)))
+  where
+    by : (b : Bool) → q a ≡ b → flat_map g (filter q rest) ≡ flat_map g rest
+        → flat_map g (cond b (a ∷ filter q rest) (filter q rest)) ≡ g a ++ flat_map g rest
+    by true e later = ap (λ l. g a ++ l) later
+    by false e later = later ∙ ap (λ l. l ++ flat_map g rest) (sym (none a (inl refl) e))
+
+nothing_pinned : (all : List (Filesystem ℕ)) → flat_map (pins_of no_pins) all ≡ []
+nothing_pinned [] = refl
+nothing_pinned (f ∷ rest) = ap (λ l. l ++ flat_map (pins_of no_pins) rest) (by f.overlay) ∙ nothing_pinned rest
+  where
+    by : (o : Option (Overlay ℕ)) → overlay_or [] (λ (overlay : Overlay ℕ). no_pins f.number) o ≡ []
+    by None = refl
+    by (Some overlay) = refl
+
+module _ (world after : World ℕ) (is : IsWorld nat_eq world) (under : IsUnderWay after)
+    (are : OverlayInvariants nat_eq after) (same : after.filesystems ≡ world.filesystems) (filesystem : ℕ) where
+  abbrev swept : World ℕ
+  swept = settled nat_eq after
+
+  abbrev living : World ℕ
+  living = in_use_of after
+
+  abbrev pins : Pins
+  pins = unnamed_pins world
+
+  abbrev pins_then : Pins
+  pins_then = unnamed_pins swept
+
+  -- what goes pins nothing then
+  pins_living : all_pins pins_then living ≡ all_pins pins_then after
+  pins_living = flat_map_dropped (pins_of pins_then) (filesystem_lives nat_eq (without_dead_mounts nat_eq after))
+      after.filesystems (λ f m dead. by f m dead f.overlay refl)
+    where
+      by : (f : Filesystem ℕ) → Among f after.filesystems
+          → filesystem_lives nat_eq (without_dead_mounts nat_eq after) f ≡ false → (o : Option (Overlay ℕ))
+          → f.overlay ≡ o → overlay_or [] (λ (overlay : Overlay ℕ). pins_then f.number) o ≡ []
+      by f m dead None there = refl
+      by f m dead (Some overlay) there = dead_pins after under are f m (ap is_some there) dead
+
+  module _ (plain : is_overlay (filesystem_numbered nat_eq world filesystem) ≡ false)
+      {gained lost : List Inode}
+      (exchanges : Exchanges gained lost filesystem (lowered no_pins world) (lowered no_pins living)) where
+    plain_then : is_overlay (filesystem_numbered nat_eq living filesystem) ≡ false
+    plain_then = sym (kind_lowered no_pins (filesystem_numbered nat_eq living filesystem))
+        ∙ ap is_overlay (sym (numbered-lowered no_pins living filesystem) ∙ exchanges.same
+        ∙ numbered-lowered no_pins world filesystem)
+        ∙ kind_lowered no_pins (filesystem_numbered nat_eq world filesystem) ∙ plain
+
+    abbrev kept_pins : List (Layer ℕ)
+    kept_pins = all_pins pins_then world
+
+    -- pins go, and those that are left are the same in both worlds
+    gone : Exchanges [] (map inode_of_layer (pins_let_go swept world)) filesystem (lowered pins world)
+        (lowered pins_then world)
+    gone = pins_are_exchanged pins pins_then world [] (pins_let_go swept world) filesystem plain (λ number.
+        let split = pins_go_with_their_inodes after filesystem number under are in
+        let before : times (is_at filesystem number) (all_pins (unnamed_pins after) after)
+        ≡ times (is_at filesystem number) (all_pins pins world) =
+        ap (λ all. times (is_at filesystem number) (all_pins (unnamed_pins (record world { filesystems = all }))
+        (record world { filesystems = all }))) same in
+        let then : times (is_at filesystem number) (all_pins pins_then after)
+        ≡ times (is_at filesystem number) (all_pins pins_then world) =
+        ap (λ all. times (is_at filesystem number) (all_pins pins_then (record world { filesystems = all }))) same in
+        let lost_so : times (is_at filesystem number) (pins_let_go swept after)
+        ≡ times (is_at filesystem number) (pins_let_go swept world) =
+        ap (λ all. times (is_at filesystem number) (pins_let_go swept (record world { filesystems = all }))) same in
+        omega (arith, split, before, then, lost_so))
+
+    first : Exchanges [] (map inode_of_layer kept_pins) filesystem (lowered pins_then world) (lowered no_pins world)
+    first = pins_are_exchanged pins_then no_pins world [] kept_pins filesystem plain (λ number.
+        let none = ap (times (is_at filesystem number)) (nothing_pinned world.filesystems) in omega (arith, none))
+
+    last : Exchanges (map inode_of_layer kept_pins) [] filesystem (lowered no_pins living) (lowered pins_then living)
+    last = pins_are_exchanged no_pins pins_then living kept_pins [] filesystem plain_then (λ number.
+        let none = ap (times (is_at filesystem number)) (nothing_pinned living.filesystems) in
+        let all : times (is_at filesystem number) (all_pins pins_then living) ≡ times (is_at filesystem number) kept_pins =
+        ap (times (is_at filesystem number))
+        (pins_living ∙ ap (λ all. all_pins pins_then (record world { filesystems = all })) same) in
+        omega (arith, none, all))
+
+    pub go_beside : Exchanges gained (lost ++ map inode_of_layer (pins_let_go swept world)) filesystem
+        (lowered pins world) (in_use_of (lowered pins_then after))
+    go_beside = subst (λ (w : World ℕ). Exchanges gained (lost ++ map inode_of_layer (pins_let_go swept world))
+        filesystem (lowered pins world) w) (sym (filesystems_go pins_then (without_dead_mounts nat_eq after)
+        (in_layers world after is under are same))) (record {
+          same = last.same ∙ exchanges.same ∙ first.same ∙ gone.same;
+          uses = λ number.
+              let zero = gone.uses number in
+              let one = first.uses number in
+              let two = exchanges.uses number in
+              let three = last.uses number in
+              let both = times_append (is_inode filesystem number) lost
+              (map inode_of_layer (pins_let_go swept world)) in
+              omega (arith, zero, one, two, three, both);
+        })
+
+pub uses_go_beside_pins : UsesGoBesidePins
+uses_go_beside_pins world after gained lost filesystem is under are same plain exchanges =
+    go_beside world after is under are same filesystem plain exchanges

@@ -39,7 +39,8 @@ use Rattle.vt_world.proofs.overlays_kept.events.KeptOverlays.{no_larger}
 use Rattle.vt_unnamed.specs.Kept.{unnamed_in, with_its_objects}
 use Rattle.vt_unnamed.specs.Left.{LeavesOverlay, LeftOverlaysAreShown, LeftOverlaysCountNodes, LeftOverlaysKeepRight, with_upper_nodes}
 use Rattle.vt_unnamed.proofs.leaving.Alike.{merged_alike}
-use Rattle.vt_unnamed.proofs.leaving.NodesLeft.{its, its_left, kept_stays, left, merged, named_left, number, real, stays, then, unnamed_kept, unnamed_without, without_name}
+use Rattle.vt_unnamed.proofs.leaving.NodesKept.{unnamed_kept, unnamed_without, without_name}
+use Rattle.vt_unnamed.proofs.leaving.NodesLeft.{its, its_left, kept_stays, left, merged, named_left, number, real, stays, then}
 
 -- a plain tree shows itself
 module _ (trees : Filesystems) where
@@ -68,12 +69,12 @@ module _ {fresh : Fresh ℕ} {world : World ℕ} {task : Task ℕ} {permit : Per
   found = filesystem_numbered nat_eq (left is) (number is)
 
   its_overlay : found.overlay ≡ Some (its_left is)
-  its_overlay = overlay_left world fresh task permit (number is) (its is) is.in_world is.given is.was is.alone is.there
+  its_overlay = overlay_left world fresh task permit (number is) (its is) is.kept.in_world is.given is.kept.is is.alone is.there
 
   merged_left : IsMergedTree (plain_world new) found (with_objects (then is) (its_left is).real)
   merged_left = merged_alike (left is) new (then is) is.after (its_left is).real found
       (overlays_are_merged_trees (left is) (number is) (its_left is)
-      (given_permits_leave_every_world world fresh task permit is.in_world is.given) its_overlay)
+      (given_permits_leave_every_world world fresh task permit is.kept.in_world is.given) its_overlay)
 
   tree_shown : found.files.tree ≡ merged_above new (then is)
   tree_shown = looks_see new (then is) found (its_left is).real merged_left (named_left is)
@@ -111,7 +112,7 @@ module _ {fresh : Fresh ℕ} {world : World ℕ} {task : Task ℕ} {permit : Per
   -- What is kept still
 
   same : found ≡ only_staying (stays is) (merged is)
-  same = tree_left world fresh task permit (number is) (its is) is.in_world is.given is.was is.alone is.there
+  same = tree_left world fresh task permit (number is) (its is) is.kept.in_world is.given is.kept.is is.alone is.there
 
   -- an inode that stays has its object
   object_stays : (inode : ℕ) → stays is inode ≡ true → (its_left is).real inode ≡ real is inode
@@ -150,8 +151,8 @@ module _ {fresh : Fresh ℕ} {world : World ℕ} {task : Task ℕ} {permit : Per
       named : (b : Bool) → is_unnamed (merged is).files (number_of node) ≡ b → is_kept above.nodes.kept node ≡ false
           → stays is (number_of node) ≡ true
       named false f none = not_unnamed_stays (left is) (merged is) (number_of node) f
-      named true f none = absurd (true≢false (sym (unnamed_kept is node (is.right.one_to_one.small slot node was.0)
-          (is.right.own slot node was.0) f (ap is_some (is.right.copies slot node was.0))) ∙ none))
+      named true f none = absurd (true≢false (sym (unnamed_kept is.kept node (is.kept.right.one_to_one.small slot node was.0)
+          (is.kept.right.own slot node was.0) f (ap is_some (is.kept.right.copies slot node was.0))) ∙ none))
 
       by : (b : Bool) → is_kept above.nodes.kept node ≡ b → stays is (number_of node) ≡ true
       by true kept = sym (kept_stays is node (among kept))
@@ -160,10 +161,10 @@ module _ {fresh : Fresh ℕ} {world : World ℕ} {task : Task ℕ} {permit : Per
 
   kept_right : IsKeptRight (then is) found.files.tree (its_left is).real
   kept_right = record {
-    one_to_one = births_stay_one_to_one above.nodes nodes is.forgets is.right.one_to_one;
-    own = λ slot node e. is.right.own slot node (still_there above.nodes nodes is.forgets slot node e).0;
+    one_to_one = births_stay_one_to_one above.nodes nodes is.forgets is.kept.right.one_to_one;
+    own = λ slot node e. is.kept.right.own slot node (still_there above.nodes nodes is.forgets slot node e).0;
     copies = λ slot node e. object_stays (number_of node) (copy_stays slot node e)
-        ∙ is.right.copies slot node (still_there above.nodes nodes is.forgets slot node e).0;
+        ∙ is.kept.right.copies slot node (still_there above.nodes nodes is.forgets slot node e).0;
     kept = all_from_among (IsLeftWithoutName (then is) found.files.tree (its_left is).real)
         (keys_of nodes.kept.by_node) without;
   }
@@ -172,7 +173,7 @@ module _ {fresh : Fresh ℕ} {world : World ℕ} {task : Task ℕ} {permit : Per
           → IsLeftWithoutName (then is) found.files.tree (its_left is).real node
       without node m =
           let among = kept_was above.nodes nodes is.forgets node m in
-          let was = without_name is node among in
+          let was = without_name is.kept node among in
           let stays_still = sym (kept_stays is node among) ∙ any_from_among (same_node node)
           (keys_of nodes.kept.by_node) node m (same_node-itself node) in
           record {
@@ -191,10 +192,10 @@ module _ {fresh : Fresh ℕ} {world : World ℕ} {task : Task ℕ} {permit : Per
 
   is_tree : IsMergedTree (left is) found (its_left is)
   is_tree = overlays_are_merged_trees (left is) (number is) (its_left is)
-      (given_permits_leave_every_world world fresh task permit is.in_world is.given) its_overlay
+      (given_permits_leave_every_world world fresh task permit is.kept.in_world is.given) its_overlay
 
   was_tree : IsMergedTree world (merged is) (its is)
-  was_tree = overlays_are_merged_trees world (number is) (its is) is.in_world is.was
+  was_tree = overlays_are_merged_trees world (number is) (its is) is.kept.in_world is.kept.is
 
   root_same : (merged is).files.tree.root ≡ found.files.tree.root
   root_same = ap (λ (f : Filesystem ℕ). f.files.tree.root) (sym same)

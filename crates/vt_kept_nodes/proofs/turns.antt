@@ -1,0 +1,3 @@
+-- What the proofs of src/turns.rt use.
+pub mod Rows
+pub mod Turned
