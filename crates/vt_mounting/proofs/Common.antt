@@ -46,7 +46,8 @@ pub use Rattle.vt_laws_worlds.proofs.RaisedInUse.{all_in_use}
 pub use Rattle.vt_laws_worlds.proofs.one_text.same.SameNumbers.{any_same_worlds_keep_to_numbers}
 pub use Rattle.vt_laws_worlds.proofs.one_text.same.SameWhole.{any_same_worlds_are_worlds}
 pub use Rattle.vt_laws_worlds.proofs.overlays_read.Swept.{same_worlds_have_layers_alike}
-pub use Rattle.vt_laws_worlds.proofs.overlays_stay.left.Given.{given_permits_give_no_upper}
+pub use Rattle.vt_laws_worlds.proofs.given.left.Permits.{given_permits_are_under_way_anywhere, given_permits_leave_every_world}
+pub use Rattle.vt_laws_worlds.proofs.overlays_stay.left.Given.{given_to_task}
 pub use Rattle.vt_laws_worlds.proofs.overlays_stay.weaving.WovenLists.{woven_lists_are_alike, woven_lists_are_failing}
 pub use Rattle.vt_laws_worlds.proofs.permits.in_use.InUseServes.{leaves_two}
 pub use Rattle.vt_laws_worlds.proofs.permits.named.PermitsKeepTo.{permits_keep_to_numbers}

@@ -66,6 +66,7 @@ pub mod StoresLeft
 pub mod LayersLeft
 pub mod OverlaysRemade
 pub mod OverlaysGone
+pub mod LowerLayers
 pub mod StoreShown
 pub mod StoreStays
 pub mod MountsLeave
@@ -74,3 +75,4 @@ pub mod StoreLends
 pub mod StoreTrees
 pub mod OverlaysListed
 pub mod LeftMounts
+pub mod CountNoUses

@@ -19,7 +19,8 @@ pub use Rattle.vt_laws_trees.proofs.trees.TreesOfWorlds.{numbered_all}
 pub use Rattle.vt_laws_trees.specs.Runs.Handed.{counts_from, is_counted_before}
 pub use Rattle.vt_laws_trees.specs.Trees.{IsFileTree}
 pub use Rattle.vt_laws_worlds.proofs.RaisedInUse.{all_in_use}
-pub use Rattle.vt_laws_worlds.proofs.overlays_stay.left.Given.{given_permits_are_under_way_without_upper}
+pub use Rattle.vt_laws_worlds.proofs.given.left.Permits.{given_permits_are_under_way_anywhere, given_permits_leave_every_world}
+pub use Rattle.vt_laws_worlds.proofs.overlays_stay.left.Given.{given_to_task}
 pub use Rattle.vt_laws_worlds.proofs.permits.sees.SeesFit.{given_changes_fit}
 pub use Rattle.vt_laws_worlds.proofs.permits.sees.SeesTasks.{given_permits_are_seen_to}
 pub use Rattle.vt_laws_worlds.proofs.worlds.Roots.{directory_is_there}

@@ -1,7 +1,7 @@
 -- No overlay of the code's world has an upper layer, nor a work directory.
-use Rattle.std.proofs.Common.{◌≡◌, ◌++◌, ◌&&◌, All, Bool, List, [], None, Option, Some, ap, false, is_some, not, nat_eq, nat_le, length, option_to_list, refl, subst, sym, true, true≢false, ℕ}
+use Rattle.std.proofs.Common.{◌≡◌, ◌++◌, ◌&&◌, All, Bool, [], None, Option, Some, false, is_some, not, nat_le, length, option_to_list, refl, sym, true, true≢false, ℕ}
 use Rattle.vt_spec.proofs.Common.{Filesystem, Layer, Overlay, among_from_all, and_parts, has_fit_layers, is_empty_list, most_lowers, of_overlay, overlay_or, same_bool, upper_and_work}
-use Rattle.vt_ns.proofs.Common.{Among, IsHeld, WorldValue, all_from_among, among_from_list_all, world_of}
+use Rattle.vt_ns.proofs.Common.{IsHeld, WorldValue, all_from_among, among_from_list_all, world_of}
 
 -- so changes write to no layer
 abbrev pub WritesToNone : Filesystem ℕ → Type 0

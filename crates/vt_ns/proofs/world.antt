@@ -17,6 +17,7 @@ pub mod ForkedTasks
 pub mod ListedWorlds
 pub mod MountsOn
 pub mod MovedEvents
+pub mod NodesUncounted
 pub mod OpeningGranted
 pub mod OpeningNew
 pub mod OverlayEvents

@@ -4,7 +4,7 @@ ghost use Rattle.std.specs.List.{list_all};
 ghost use Rattle.vt_spec.specs.Machine.Permits.Permit.{ToExit};
 ghost use Rattle.vt_mounting.specs.Detach.Events.{Becomes, Permits};
 ghost use Rattle.vt_mounting.specs.Detach.NamespacesLeft.{is_small_file, without_file};
-ghost use Rattle.vt_mounting.specs.Detach.Stored.{OverlaysLeft, kept};
+ghost use Rattle.vt_mounting.specs.Detach.Stored.{CountNoUses, OverlaysLeft, kept};
 ghost use Rattle.vt_ns.specs.Counting.{CountsNothing};
 
 use crate::world::World;
@@ -38,8 +38,10 @@ impl World {
 
 // One use less for each of these open files.
 fn leave_files(mounts: &mut Mounts, store: &mut Store, files: &[OpenFile])
+    requires { CountNoUses store.old }
     ensures left { kept mounts.new store.new ≡ fold without_file (kept mounts.old store.old) files.now }
     ensures overlays { OverlaysLeft store.old.overlays store.new.overlays }
+    ensures still { CountNoUses store.new }
     ensures slots { list_all is_small_file files.now ≡ true }
 {
     for file in files {

@@ -6,7 +6,7 @@ ghost use Rattle.vt_spec.specs.Machine.Permits.Permit.{ToFork};
 ghost use Rattle.vt_spec.specs.Machine.World.{task_called};
 ghost use Rattle.vt_mounting.specs.Detach.Events.{Becomes, Permits};
 ghost use Rattle.vt_mounting.specs.Detach.Forking.{HasRoom, with_task_more};
-ghost use Rattle.vt_mounting.specs.Detach.Stored.{kept};
+ghost use Rattle.vt_mounting.specs.Detach.Stored.{CountNoUses, kept};
 ghost use Rattle.vt_mounting.specs.Detach.Uses.{with_location};
 ghost use Rattle.vt_world.specs.WorldValue.{entries_of, world_of};
 ghost use Rattle.vt_ns.specs.Counting.{CountsATask};
@@ -52,18 +52,21 @@ impl World {
 
 // Whether so many more uses of a location may be counted.
 pub(crate) fn has_room(more: u64, mounts: &Mounts, store: &Store, at: Location) -> bool
+    requires { CountNoUses store.now }
     ensures { (result ≡ true) ↔ HasRoom more at mounts.now store.now.plain }
 {
     mounts.uses(at.mount) <= u64::MAX - more
         && mounts.writers(at.mount) < u64::MAX
-        && store.plain().uses(at.node) <= u64::MAX - more
+        && store.uses(at.node) <= u64::MAX - more
 }
 
 // One use more of a location, for which there is room. It does not allocate.
 pub(crate) fn hold_once_more(mounts: &mut Mounts, store: &mut Store, at: Location, writes: bool)
-    requires { HasRoom 1 at mounts.old store.old.plain }
+    requires room { HasRoom 1 at mounts.old store.old.plain }
+    requires none { CountNoUses store.old }
     ensures held { kept mounts.new store.new ≡ with_location at writes (kept mounts.old store.old) }
     ensures overlays { store.new.overlays ≡ store.old.overlays }
+    ensures still { CountNoUses store.new }
     ensures slot { is_small_node at.node ≡ true }
 {
     // It cannot fail: there is room.

@@ -64,14 +64,14 @@ impl World {
         ensures err { OnErr result (self.new ≡ self.old) }
     {
         let left = self.mount_point(mount);
-        if self.store.plain().uses(place.node) == u64::MAX {
+        if self.store.uses(place.node) == u64::MAX {
             return Err(AllocError);
         }
         self.mounts.move_to(mount, place)?;
         // It cannot fail: one more use can be counted.
-        let _ = self.store.plain_mut().pin(place.node);
+        let _ = self.store.pin(place.node);
         if let Some(point) = left {
-            self.store.plain_mut().unpin(point.node);
+            self.store.unpin(point.node);
         }
         Ok(())
     }

@@ -12,7 +12,7 @@ ghost use Rattle.vt_spec.specs.Machine.Permits.Permit.{ToMountPlain};
 ghost use Rattle.vt_spec.specs.Machine.NewMounts.{new_mount};
 ghost use Rattle.vt_spec.specs.Machine.World as meant;
 ghost use Rattle.vt_mounting.specs.Detach.Events.{Becomes};
-ghost use Rattle.vt_mounting.specs.Detach.Stored.{OverlaysStay, kept};
+ghost use Rattle.vt_mounting.specs.Detach.Stored.{CountNoUses, OverlaysStay, kept};
 ghost use Rattle.vt_world.specs.WorldValue.{world_of};
 ghost use Rattle.vt_mounting.specs.Attach.Grafted.{IsGrafted, MayGraft};
 ghost use Rattle.vt_ns.specs.Grants.{Grants};
@@ -121,6 +121,8 @@ fn mount_new(
     counts: Counts,
 ) -> Result<(), AllocError>
     requires above { list_all (λ entry. nat_lt entry.count filesystem.count) store.old.plain ≡ true }
+    requires above_overlays { list_all (λ entry. nat_lt entry.count filesystem.count) store.old.overlays ≡ true }
+    requires none { CountNoUses store.old }
     requires room { HasRoomFor graft.now counts }
     requires may { MayGraft mounts.old groups.old graft.now counts }
     ensures ok { OnOk result ((entry : FilesystemEntry) × IsNew filesystem.count meant.root_attr entry

@@ -5,7 +5,7 @@ ghost use Rattle.vt_location.specs.Numbers.{mount_number};
 ghost use Rattle.vt_spec.specs.Machine.Permits.Permit.{ToPivot};
 ghost use Rattle.vt_mounting.specs.Detach.Events.{Becomes, Permits};
 ghost use Rattle.vt_mounting.specs.Detach.Forking.{HasRoom};
-ghost use Rattle.vt_mounting.specs.Detach.Stored.{kept};
+ghost use Rattle.vt_mounting.specs.Detach.Stored.{CountNoUses, kept};
 ghost use Rattle.vt_ns.specs.Pivoting.{with_uses, without_uses};
 
 use crate::forking::{has_room, hold_once_more};
@@ -43,7 +43,7 @@ impl World {
         let entered = new_root.root_location();
         let moved = self.tasks.places_at(namespace, left);
         if !has_room(moved + 1, &self.mounts, &self.store, entered)
-            || self.store.plain().uses(put.node) == u64::MAX
+            || self.store.uses(put.node) == u64::MAX
         {
             return Err(AllocError);
         }
@@ -51,10 +51,10 @@ impl World {
         let mounts = &mut self.mounts;
         let store = &mut self.store;
         // It cannot fail: one more use can be counted.
-        let _ = store.plain_mut().pin(put.node);
+        let _ = store.pin(put.node);
         hold_each(mounts, store, entered, moved);
         release_each(mounts, store, left, moved);
-        store.plain_mut().unpin(point.node);
+        store.unpin(point.node);
         self.tasks.pivot(namespace, &root, &new_root);
         Ok(())
     }
@@ -62,9 +62,11 @@ impl World {
 
 // So many uses more of a location, for which there is room. It does not allocate.
 fn hold_each(mounts: &mut Mounts, store: &mut Store, at: Location, uses: u64)
-    requires { HasRoom uses at mounts.old store.old.plain }
+    requires room { HasRoom uses at mounts.old store.old.plain }
+    requires none { CountNoUses store.old }
     ensures held { kept mounts.new store.new ≡ with_uses uses at (kept mounts.old store.old) }
     ensures overlays { store.new.overlays ≡ store.old.overlays }
+    ensures still { CountNoUses store.new }
     ensures slot { is_small_node at.node ≡ true }
 {
     for _ in 0..uses {
@@ -74,12 +76,14 @@ fn hold_each(mounts: &mut Mounts, store: &mut Store, at: Location, uses: u64)
 
 // So many uses less of a location that is in use by others too. It does not allocate.
 fn release_each(mounts: &mut Mounts, store: &mut Store, at: Location, uses: u64)
+    requires { CountNoUses store.old }
     ensures left { kept mounts.new store.new ≡ without_uses uses at (kept mounts.old store.old) }
     ensures overlays { store.new.overlays ≡ store.old.overlays }
+    ensures still { CountNoUses store.new }
     ensures slot { is_small_node at.node ≡ true }
 {
     for _ in 0..uses {
         mounts.release(at.mount, false);
-        store.plain_mut().unpin(at.node);
+        store.unpin(at.node);
     }
 }

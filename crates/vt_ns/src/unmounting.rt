@@ -7,7 +7,7 @@ ghost use Rattle.vt_mount.specs.MountsValue.{mounts_in};
 ghost use Rattle.vt_spec.specs.Machine.Mounts.{is_shared, mount_in};
 ghost use Rattle.vt_ns.specs.Unmounting.{GoTogether, are_ungrouped, stands_on_shared, unmounts_alone};
 ghost use Rattle.vt_mounting.specs.Detach.Detached.{tree_numbers};
-ghost use Rattle.vt_mounting.specs.Detach.Stored.{OverlaysLeft, kept};
+ghost use Rattle.vt_mounting.specs.Detach.Stored.{CountNoUses, OverlaysLeft, kept};
 ghost use Rattle.vt_spec.specs.Machine.Permits.Permit.{ToUnmount, ToUnmountLazily};
 ghost use Rattle.vt_mounting.specs.Detach.Events.{Becomes, Permits};
 ghost use Rattle.vt_laws_worlds.specs.Permits.Taken.{is_ungrouped};
@@ -139,6 +139,7 @@ fn take_away(
     store: &mut Store,
     plan: &Detachment,
 ) -> Result<(), AllocError>
+    requires { CountNoUses store.old }
     ensures ok { OnOk result (GoTogether (map mount_number plan.now.gone.items) plan.now.points.items
         (kept mounts.old store.old) groups.old (kept mounts.new store.new) groups.new) }
     ensures overlays { OnOk result (OverlaysLeft store.old.overlays store.new.overlays) }

@@ -7,6 +7,7 @@ use Rattle.vt_mounting.proofs.Common.{Among, AreThere, CountsItsMounts, Exchange
 use Rattle.vt_laws_mounts.proofs.counts.using.MountRoots as Roots
 use Rattle.vt_laws_mounts.proofs.counts.using.Places.{locations_are_uses, mounts_are_uses}
 use Rattle.vt_laws_mounts.proofs.letting_go.leaving.MountsAdded.{found_before}
+use Rattle.vt_mounting.proofs.detach.LowerLayers.{exchanges_of_lowers}
 use Rattle.vt_mounting.proofs.detach.MountsLeave.{leaves_alike, merged_alike}
 use Rattle.vt_mounting.specs.Detach.Uses.{Kept, is_unused, merged_seen}
 use Rattle.vt_mounting.proofs.detach.Keeping.{nowhere_still}
@@ -307,7 +308,7 @@ module _ {value : WorldValue} {added : List (Mount ℕ)} {tasks : Tasks} {more l
         (λ new. absurd (true≢false (sym going ∙ is.stays entry.mount new))) (entry_mount entry m);
     shown = λ one m. let from = shown_was one m in subst (IsShown value ended gained []) (sym from.2)
         (shown_is from.0 from.1);
-    exchanges = λ one m. exchanges_are (counted one.count);
+    exchanges = λ one m. exchanges_of_lowers {world = world} {after = ended} refl (exchanges_are (counted one.count));
     numbers = ap (map (λ (f : Filesystem ℕ). f.number)) (plain_ones_are value whole.overlays)
         ∙ map_twice (λ (f : Filesystem ℕ). f.number) filesystem_seen value.filesystems
         ∙ sym (map_twice (λ (one : Shown). counted one.count) shown_entry value.filesystems)

@@ -363,7 +363,7 @@ module _ {value : WorldValue} {base : Filesystems} (is_base : IsBase value base)
       → left_by value permits.task permit ≡ entered_world
       → KeepsTo (is_counted_before next) (left_by value permits.task permit) → IsDone value name permit new
   entered_is_done held has {name} {permit} permits takes left_is keeps =
-      let is_world = subst (IsWorld nat_eq) left_is (left_is_world held takes).0 in
+      let is_world = subst (IsWorld nat_eq) left_is (left_is_world held takes) in
       numbers_are_kept held takes same_overlays
       (subst (λ (left : World ℕ). ShowsAs left new) (sym left_is) (shows has is_world)) counts_then own_then keeps
 

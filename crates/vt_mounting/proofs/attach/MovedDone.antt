@@ -1,14 +1,13 @@
 -- The event that moves a tree to a shared mount, with copies at its receivers: mount(2) with MS_MOVE.
 use Rattle.std.proofs.Common.{◌≡◌, ◌<◌, refl, sym, ap, subst, ◌∙◌, ⊎_elim, inl, inr, true≢false, ℕ, zero, suc, ◌+◌, ◌*◌, ◌%◌, ◌==◌, nat_eq, eq-eqb, true, false, ◌&&◌, ◌||◌, List, [], ◌∷◌, ◌++◌, map, filter, length, Option, Some, None, is_some, arith, Contains, drop, if◌then◌else◌, option_map, take, unwrap_or, ne_eqb, length-append}
-use Rattle.vt_spec.proofs.Common.{Copies, Filesystem, IsWorld, Permit, Private, Propagation, Shared, Slave, TaskName, ToMove, Unbindable, World, among_from_contains, any_pair, attach, attached_by, common_steps, contains_from_among, copies_from, drop-append_seam, first_of_list, folded, group_of, has_members, holds_of, is_among, is_mounted, is_shared, length-map, list_all, list_all-append, list_any, list_any-append, lookup, map-append, map_twice, masters_with, mount_at, mount_lives, mount_numbered, mount_tree, or_left, or_parts, parts_of, rest_of, settled, some_from_is_some, take-append_seam, tree_from, type_at, type_on_shared, with_mount}
+use Rattle.vt_spec.proofs.Common.{Copies, Filesystem, IsWorld, Permit, Private, Propagation, Shared, Slave, TaskName, ToMove, Unbindable, World, among_from_contains, any_pair, attach, attached_by, common_steps, contains_from_among, copies_from, drop-append_seam, first_of_list, folded, group_of, has_members, holds_of, is_among, is_mounted, is_shared, length-map, list_all, list_all-append, list_any, list_any-append, lookup, map-append, map_twice, masters_with, mount_at, mount_lives, mount_numbered, mount_tree, or_left, or_parts, parts_of, rest_of, settled, some_from_is_some, take-append_seam, tree_from, type_at, type_on_shared, with_mount, OverlayInvariants}
 use Rattle.std.proofs.lemmas.List.{drop-map}
 use Rattle.vt_spec.specs.Machine.Mounts as meant
-use Rattle.vt_mounting.proofs.Common.{Among, AttachesBy, Exchanges, Filesystems, Grouping, Grows, Has, IsHeld, IsUnderWay, KeepsTo, MountEntry, MovesOnce, OneNumberAMount, Shown, WorldValue, all_from_among, all_in_use, among-from_map, among-map, among_from_all, among_from_list_all, any-map, are_ascending, counted, counts_from, in_use_of, is_among_numbers, is_counted_before, location_of, master_in, mount_of, mounts_entered, mounts_in, mounts_of_worlds_stand, moved_by, new_group, none_from_among, numbers_at, numbers_of, one_number_by_numbers, overlays_seen, parts_apart, planned_copies, typed, world_of}
+use Rattle.vt_mounting.proofs.Common.{Among, AttachesBy, Exchanges, Filesystems, Grouping, Grows, Has, IsHeld, IsUnderWay, KeepsTo, MountEntry, MovesOnce, OneNumberAMount, Shown, WorldValue, all_from_among, all_in_use, among-from_map, among-map, among_from_all, among_from_list_all, any-map, are_ascending, counted, counts_from, given_permits_are_under_way_anywhere, given_to_task, in_use_of, is_among_numbers, is_counted_before, location_of, master_in, mount_of, mounts_entered, mounts_in, mounts_of_worlds_stand, moved_by, new_group, none_from_among, numbers_at, numbers_of, one_number_by_numbers, overlays_seen, parts_apart, planned_copies, typed, world_of}
 use Rattle.vt_laws_mounts.proofs.counts.using.MountRoots as Roots
 use Rattle.vt_location.specs.declared.mounts.Mount.{Mount}
 use Rattle.vt_laws_mounts.proofs.moves.MovingRoots.{tree_placed}
 use Rattle.vt_laws_mounts.proofs.mounts.Standing.{trees_have_each_once}
-use Rattle.vt_laws_worlds.proofs.overlays_stay.left.Given.{given_permits_are_under_way_without_upper}
 use Rattle.vt_propagate.specs.declared.copying.Counts.{Counts}
 use Rattle.vt_propagate.specs.declared.copying.Graft.{Graft}
 use Rattle.vt_propagate.specs.Attaching.{IsMoved}
@@ -20,6 +19,7 @@ use Rattle.vt_mounting.specs.Detach.Uses.{unused_entry, Merged, kept_of, kept_wi
 use Rattle.vt_mounting.proofs.detach.Bridging.{IsSwept, shows_left}
 use Rattle.vt_mounting.proofs.detach.FileEvents.{permit_fits}
 use Rattle.vt_mounting.proofs.detach.Grouped.{settled_has}
+use Rattle.vt_mounting.proofs.detach.LowerLayers.{exchanges_of_lowers, of_lowers}
 use Rattle.vt_mounting.proofs.detach.Overlaid.{AreStillMounted, is_plain_one, overlays_are, plain_ones_are, still_mounted, all_shown}
 use Rattle.vt_mounting.proofs.detach.Places.{located_is_named}
 use Rattle.vt_mounting.proofs.detach.Showing.{ShowsAs}
@@ -479,8 +479,13 @@ module _ (value : WorldValue) (whole : IsHeld value) (name : TaskName) (number :
 
     under : IsUnderWay then_world
     under = subst IsUnderWay moved_is
-        (given_permits_are_under_way_without_upper world (counts_from value.next) permits.task permit whole.in_world
-        whole.overlays.read_only permits.given).0
+        (given_permits_are_under_way_anywhere world (counts_from value.next) permits.task permit whole.in_world
+        (given_to_task (counts_from value.next) world permits.task permit permits.given)).0
+
+    overlays_then : OverlayInvariants nat_eq then_world
+    overlays_then = subst (λ (w : World ℕ). OverlayInvariants nat_eq w) moved_is
+        (given_permits_are_under_way_anywhere world (counts_from value.next) permits.task permit whole.in_world
+        (given_to_task (counts_from value.next) world permits.task permit permits.given)).1
 
     -- all is in use
 
@@ -536,6 +541,7 @@ module _ (value : WorldValue) (whole : IsHeld value) (name : TaskName) (number :
     swept : IsSwept value then_world
         (inodes_of_points (points_taken points value.mounts) ++ gained_by come) (inodes_of_points is.left) new
     swept = record {
+      files = refl;
       midway = record { overlays = overlays_are value whole.overlays; rise = whole.overlays.all_rise };
       overlays = overlays_same value (is_beside value whole) come overlays (ap (λ k. k.overlays) entered.done)
           ∙ all_shown value (in_use_of then_world) (subst (AreStillMounted value) (sym living_is) overlays_mounted);
@@ -553,8 +559,9 @@ module _ (value : WorldValue) (whole : IsHeld value) (name : TaskName) (number :
             inodes = ap (λ (one : Shown). one.inodes) from.2;
             exchanges = subst (λ (w : World ℕ). Exchanges
                 (inodes_of_points (points_taken points value.mounts) ++ gained_by come) (inodes_of_points is.left)
-                (counted from.0.count) world w) (sym living_is)
-                (exchanged_then entered.can master kinds under (counted from.0.count));
+                (counted from.0.count) (of_lowers world) (of_lowers w)) (sym living_is)
+                (exchanges_of_lowers {world = world} {after = then_world} refl
+                (exchanged_then entered.can master kinds under (counted from.0.count)));
           };
       namespaces = refl;
       tasks = refl;
@@ -562,10 +569,16 @@ module _ (value : WorldValue) (whole : IsHeld value) (name : TaskName) (number :
 
     left_then : IsWorld nat_eq (settled nat_eq then_world)
     left_then = subst (λ (w : World ℕ). IsWorld nat_eq (settled nat_eq w)) moved_is
-        (left_is_world whole takes).0
+        (left_is_world whole takes)
 
     shows_then : ShowsAs (settled nat_eq then_world) new
-    shows_then = shows_left value whole then_world
+    shows_then = shows_left value whole then_world (record {
+      policy = then_world;
+      under = under;
+      overlays = overlays_then;
+      left = refl;
+      files = refl;
+    })
         (inodes_of_points (points_taken points value.mounts) ++ gained_by come) (inodes_of_points is.left) new swept
         has_settled left_then
 

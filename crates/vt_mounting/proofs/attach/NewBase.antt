@@ -21,7 +21,8 @@ use Rattle.vt_mounting.proofs.attach.AttachedCounts.{times_none}
 use Rattle.vt_mounting.proofs.attach.GraftedDone.{IsBase, with_base}
 use Rattle.vt_mounting.proofs.attach.GraftedUses.{beside_overlays}
 use Rattle.vt_mounting.proofs.attach.NewFilesystems.{all_own, filesystem_counted, found_below, number_below}
-use Rattle.vt_mounting.proofs.attach.TakingNumbers.{TakesNumbers, left_is_world}
+use Rattle.vt_laws_worlds.proofs.overlays_stay.left.Given.{given_permits_give_no_upper}
+use Rattle.vt_mounting.proofs.attach.TakingNumbers.{TakesNumbers}
 
 -- the destination is there
 pub destination_there : (value : WorldValue) → IsHeld value
@@ -115,7 +116,8 @@ module _ {value : WorldValue} (whole : IsHeld value) {name : TaskName} {place : 
   left_world : IsWorld nat_eq (attach nat_eq middle (odds fresh) place false tree)
       × OverlaysHaveNoUpper (attach nat_eq middle (odds fresh) place false tree)
   left_world = subst (λ (w : World ℕ). IsWorld nat_eq w × OverlaysHaveNoUpper w) left_attached
-      (left_is_world whole takes)
+      (given_permits_give_no_upper world fresh permits.task (ToMountPlain place flags) whole.in_world
+      whole.overlays.read_only permits.given)
 
   -- No mount and no location is in the new filesystem
 

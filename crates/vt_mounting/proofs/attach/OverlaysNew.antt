@@ -1,7 +1,7 @@
 -- A new overlay in a store: its layers are in use, and it comes after all others.
-use Rattle.std.proofs.Common.{◌≡◌, ◌≤◌, refl, ap, ◌∙◌, ℕ, ◌+◌, nat_eq, eq-eqb, nat_lt, Bool, true, false, cond, not, ◌&&◌, List, [], ◌∷◌, ◌++◌, length, map, Option, Some, None, option_map, unwrap_or, arith, nat_le, le-leb, leb-true, ltb-true, ne_eqb}
+use Rattle.std.proofs.Common.{◌≡◌, ◌≤◌, refl, sym, ap, subst, ◌∙◌, ⊎_elim, ℕ, ◌+◌, nat_eq, eq-eqb, nat_lt, Bool, true, false, cond, not, ◌&&◌, List, [], ◌∷◌, ◌++◌, length, map, Option, Some, None, option_map, unwrap_or, arith, nat_le, le-leb, leb-true, ltb-true, ne_eqb}
 use Rattle.vt_spec.proofs.Common.{and_parts, common_steps, folded, list_all, map_alike, pinned}
-use Rattle.vt_mounting.proofs.Common.{Inode, Overlays, Shown, StoreValue, among_from_list_all, counted, counted_test, entry_kept, list_all_from_among, held_in, pinned_if, shown_with, with_layers, without_overlay}
+use Rattle.vt_mounting.proofs.Common.{Among, Inode, Overlays, Shown, StoreValue, all_from_among, among-append, among-from_map, among-map, among_from_all, among_from_list_all, counted, counted_test, entry_kept, list_all_from_among, held_in, pinned_if, shown, shown_with, with_layers, without_overlay}
 use Rattle.vt_laws_mounts.proofs.letting_go.Lists.{filter_here, filter_skip}
 use Rattle.vt_location.specs.declared.locations.Location.{Location}
 use Rattle.vt_location.specs.declared.mounts.Mount.{Mount}
@@ -10,8 +10,9 @@ use Rattle.vt_store.specs.LayersHeld as Stored
 use Rattle.vt_layered.specs.LayeredValue.{held_layers}
 use Rattle.vt_store.proofs.KeptObjects.{layered_entry}
 use Rattle.vt_store.specs.OverlaysValue.{OverlayEntry, layers_held}
-use Rattle.vt_mounting.specs.Detach.Stored.{layer_of}
+use Rattle.vt_mounting.specs.Detach.Stored.{CountNoUses, CountsNoUses, has_count, layer_of, layered_kept, under_counts}
 use Rattle.vt_mounting.specs.Detach.Uses.{Merged, inode_of, merged_at, mounted_in, mounts_shown, pinned_in}
+use Rattle.vt_mounting.proofs.detach.CountNoUses.{NoneComes, none_mounted, none_pinned}
 use Rattle.vt_mounting.proofs.detach.Shown.{changed_inodes, counted_eq_back}
 use Rattle.vt_mounting.specs.Attach.Room.{has_room, merged_has_room, point_has_room, uses_shown}
 use Rattle.vt_mounting.proofs.attach.RoomLemmas.{mounted_mounts, mounted_uses, pinned_mounts, pinned_uses}
@@ -156,3 +157,32 @@ withdrawn (first ∷ rest) entry above =
     filter_here (λ (other : OverlayEntry). not (nat_eq entry.count other.count)) first (rest ++ entry ∷ [])
     (ap not (ne_eqb entry.count first.count (λ same. absurd (omega (arith, low, same)))))
     ∙ ap (λ others. first ∷ others) (withdrawn rest entry parts.1)
+
+-- Overlays count no uses still
+
+none_with_layers : (layers : List Inode) (all : List Shown) → NoneComes all (folded with_layer all layers)
+none_with_layers [] all count none = none
+none_with_layers (layer ∷ rest) all count none = none_with_layers rest (with_layer all layer) count
+    (none_mounted layer.0 (pinned_in layer all) count (none_pinned layer all count none))
+
+pub still_with : (old new : StoreValue) (entry : OverlayEntry) (layers : List LayerRef) → entry.above ≡ None
+    → has_count entry.count (shown old.plain) ≡ false → CountNoUses old → new.overlays ≡ old.overlays ++ entry ∷ []
+    → shown new.plain ≡ with_layers layers (shown old.plain) → CountNoUses new
+still_with old new entry layers low apart none overlays plain =
+    all_from_among (CountsNoUses (shown new.plain)) (under_counts new.overlays) (λ one m.
+    let from = among-from_map layered_kept (old.overlays ++ entry ∷ []) one
+    (subst (λ all. Among one (under_counts all)) overlays m) in
+    subst (CountsNoUses (shown new.plain)) (sym from.2) (⊎_elim (λ was.
+    let counts = among_from_all (CountsNoUses (shown old.plain)) (under_counts old.overlays) none
+    (layered_kept from.0) (among-map layered_kept old.overlays from.0 was) in
+    record { low = counts.low; apart = fewer from.0.count counts.apart })
+    (λ last. subst (λ other. CountsNoUses (shown new.plain) (layered_kept other)) (only last)
+    (record { low = low; apart = fewer entry.count apart }))
+    (among-append old.overlays (entry ∷ []) from.0 from.1)))
+  where
+    fewer : NoneComes (shown old.plain) (shown new.plain)
+    fewer count absent = ap (has_count count) (plain ∙ layers_more layers (shown old.plain))
+        ∙ none_with_layers (map layer_of layers) (shown old.plain) count absent
+
+    only : {other : OverlayEntry} → Among other (entry ∷ []) → entry ≡ other
+    only m = ⊎_elim (λ same. sym same) (λ none. absurd none) m

@@ -1,18 +1,17 @@
 -- Mounts that get other mount points, one after the other: their room, and the uses of their mount points.
-use Rattle.std.proofs.Common.{◌≡◌, refl, ap, subst, sym, ◌∙◌, ℕ, ◌+◌, ◌-◌, ◌<◌, ◌≤◌, nat_eq, Bool, true, false, cond, ◌&&◌, List, [], ◌∷◌, length, Some, None, Option, option_map, take, drop, get_or, map, inl, arith, IsErr, OnOk, Result, nat_le, option_to_list, le-leb, leb-true, length-append, length-take-le, take-append-drop}
-use Rattle.vt_spec.proofs.Common.{and_parts, common_steps, folded, length-map, list_all, list_all-append, pinned, take_more, uses_in, ⊤}
+use Rattle.std.proofs.Common.{◌≡◌, refl, ap, subst, sym, ◌∙◌, ℕ, ◌+◌, ◌-◌, ◌<◌, ◌≤◌, Bool, true, false, cond, ◌&&◌, List, [], ◌∷◌, length, Some, None, Option, option_map, take, drop, get_or, map, inl, arith, nat_le, option_to_list, le-leb, leb-true, length-append, length-take-le, take-append-drop}
+use Rattle.vt_spec.proofs.Common.{and_parts, common_steps, folded, length-map, list_all, list_all-append, take_more, uses_in}
 use Rattle.std.proofs.lemmas.List.{flat_map_more, map_more}
 use Rattle.std.proofs.lemmas.List.Folds.{list_all_more}
 use Rattle.vt_location.specs.Numbers.{most_counted}
-use Rattle.vt_mounting.proofs.Common.{Among, ChangesInodes, Filesystems, Inode, MountEntry, Shown, among-append_left, among-append_right, among-map, among_from_list_all, counted, inodes_at, location_of, number_of, shown}
+use Rattle.vt_mounting.proofs.Common.{Among, Filesystems, Inode, MountEntry, Shown, among-append_left, among-append_right, among-map, among_from_list_all, counted, inodes_at, location_of, number_of, shown}
 use Rattle.vt_location.specs.declared.locations.Location.{Location}
 use Rattle.vt_location.specs.declared.mounts.Mount.{Mount}
 use Rattle.vt_mount.specs.declared.moving.Moved.{Moved}
 use Rattle.vt_mounting.specs.Attach.Planned.{Point, left_of, pinned_by, placed_entry, points_taken, taken_of, unpinned_by}
 use Rattle.vt_mounting.specs.Attach.Room.{has_room, point_has_room, uses_shown}
-use Rattle.vt_mounting.specs.Detach.Uses.{inode_of, mounts_shown}
-use Rattle.vt_mounting.proofs.detach.Shown.{pins}
-use Rattle.vt_mounting.proofs.attach.RoomLemmas.{folded_more, not_refused, pinned_mounts, pinned_uses, uses_are_shown}
+use Rattle.vt_mounting.specs.Detach.Uses.{inode_of, mounts_shown, unpinned_at}
+use Rattle.vt_mounting.proofs.attach.RoomLemmas.{folded_more, pinned_mounts, pinned_uses, uses_are_shown}
 use Rattle.vt_mounting.proofs.detach.LostUses.{folded_append}
 
 -- Their numbers stay
@@ -109,40 +108,39 @@ module _ (points : List Location) (all : List Shown) (less most : ℕ) (fits : l
 
 -- One step of a loop
 
-pub pinned_next : (moved : List Moved) (old : List Shown) (before after : Filesystems) (i : ℕ) (d : Moved)
-    → i < length moved → length moved ≤ most_counted
-    → list_all (λ (point : Location). point_has_room (most_counted - length moved) old (Some point)) (taken_of moved)
-    ≡ true → shown before ≡ folded pinned_by old (taken_of (take i moved)) → {E : Type 0} (result : Result ⊤ E)
-    → (IsErr result → uses_in ((inodes_at before (get_or moved i d).to.node.filesystem.count).inode
-    (number_of (get_or moved i d).to.node)) ≡ most_counted)
-    → OnOk result (ChangesInodes (get_or moved i d).to.node.filesystem.count
-    (λ inodes. pinned nat_eq inodes (number_of (get_or moved i d).to.node)) before after)
-    → shown after ≡ folded pinned_by old (taken_of (take (i + 1) moved))
-pinned_next moved old before after i d less fits room so_far result limit ok =
-    let point = (get_or moved i d).to in
-    let node = point.node in
-    let size : length (taken_of (take i moved)) ≡ i =
-    length-map (take i moved) place ∙ length-take-le i moved (omega (arith, less)) in
-    let few = pin_room (taken_of (take i moved)) point old (length moved) (omega (arith, size, less))
-    fits (among_from_list_all (λ (other : Location). point_has_room (most_counted - length moved) old (Some other))
-    (taken_of moved) room
-    point (among-map place moved (get_or moved i d) (at moved i less))) so_far in
-    let same = uses_are_shown node.filesystem.count (number_of node) before in
-    pins node.filesystem.count (number_of node) before after (not_refused result (ChangesInodes node.filesystem.count
-    (λ inodes. pinned nat_eq inodes (number_of node)) before after)
-    (uses_in ((inodes_at before node.filesystem.count).inode (number_of node)) ≡ most_counted) limit ok
-    (λ full. omega (arith, full, few, same))) ∙ ap (λ all. pinned_by all point) so_far
-    ∙ sym (ap (folded pinned_by old) (map_more place moved i d less)
-    ∙ folded_more pinned_by (taken_of (take i moved)) point old)
-  where
-    place : Moved → Location
-    place one = one.to
+module _ (moved : List Moved) (old : List Shown) {before : List Shown} (i : ℕ) (d : Moved) (less : i < length moved)
+    (so_far : before ≡ folded pinned_by old (taken_of (take i moved))) where
+  abbrev place : Moved → Location
+  place one = one.to
 
-    at : (list : List Moved) (k : ℕ) → k < length list → Among (get_or list k d) list
-    at list k low = subst (Among (get_or list k d)) (take-append-drop (k + 1) list)
-        (among-append_left (take (k + 1) list) (drop (k + 1) list) (get_or list k d)
-        (subst (Among (get_or list k d)) (sym (take_more list k d low))
-        (among-append_right (take k list) (get_or list k d ∷ []) (get_or list k d) (inl refl))))
+  at : (list : List Moved) (k : ℕ) → k < length list → Among (get_or list k d) list
+  at list k low = subst (Among (get_or list k d)) (take-append-drop (k + 1) list)
+      (among-append_left (take (k + 1) list) (drop (k + 1) list) (get_or list k d)
+      (subst (Among (get_or list k d)) (sym (take_more list k d low))
+      (among-append_right (take k list) (get_or list k d ∷ []) (get_or list k d) (inl refl))))
+
+  -- the next mount point has room for a use more
+  pub pinned_fits : length moved ≤ most_counted
+      → list_all (λ (point : Location). point_has_room (most_counted - length moved) old (Some point)) (taken_of moved)
+      ≡ true → uses_shown (inode_of (get_or moved i d).to.node) before < most_counted
+  pinned_fits fits room =
+      let point = (get_or moved i d).to in
+      let size : length (taken_of (take i moved)) ≡ i =
+      length-map (take i moved) place ∙ length-take-le i moved (omega (arith, less)) in
+      pin_room (taken_of (take i moved)) point old (length moved) (omega (arith, size, less)) fits
+      (among_from_list_all (λ (other : Location). point_has_room (most_counted - length moved) old (Some other))
+      (taken_of moved) room point (among-map place moved (get_or moved i d) (at moved i less))) so_far
+
+  pub pinned_next : {after : List Shown} → after ≡ pinned_by before (get_or moved i d).to
+      → after ≡ folded pinned_by old (taken_of (take (i + 1) moved))
+  pinned_next step = step ∙ ap (λ all. pinned_by all (get_or moved i d).to) so_far
+      ∙ sym (ap (folded pinned_by old) (map_more place moved i d less)
+      ∙ folded_more pinned_by (taken_of (take i moved)) (get_or moved i d).to old)
+
+pub unpinned_once : (point : Option Location) (all : List Shown)
+    → unpinned_at point all ≡ folded unpinned_by all (option_to_list point)
+unpinned_once None all = refl
+unpinned_once (Some point) all = refl
 
 pub unpinned_next : (moved : List Moved) (old : List Shown) {before after : List Shown} (i : ℕ) (d : Moved)
     → i < length moved

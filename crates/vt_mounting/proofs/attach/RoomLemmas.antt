@@ -1,8 +1,8 @@
 -- Uses of inodes and filesystems that new mounts make, and room for them.
 use Rattle.std.proofs.Common.{◌≡◌, refl, sym, ap, subst, ◌∙◌, ℕ, ◌+◌, ◌*◌, ◌-◌, ◌<◌, ◌≤◌, nat_eq, eqb-true, Bool, true, false, cond, ◌&&◌, List, [], ◌∷◌, ◌++◌, length, find, Option, Some, None, option_map, unwrap_or, take, get_or, arith, Err, IsErr, Ok, OnOk, Result, nat_le, le-leb, leb-true, length-take-le, IsOk, true≢false}
-use Rattle.vt_spec.proofs.Common.{Inode as Counted, Inodes, and_parts, common_steps, folded, list_all, pinned, used_once_more, uses_in, ⊤}
+use Rattle.vt_spec.proofs.Common.{Inode as Counted, Inodes, and_parts, common_steps, folded, list_all, pinned, take_more, used_once_more, uses_in, ⊤}
 use Rattle.vt_location.specs.Numbers.{most_counted}
-use Rattle.vt_mounting.proofs.Common.{Filesystems, Inode, Shown, among_from_list_all, counted, counted_test, entry_of, inodes_at, inodes_seen, no_entry, number_of, pinned_if, shown, shown_entry, with_changed}
+use Rattle.vt_mounting.proofs.Common.{Filesystems, Inode, Shown, among_from_list_all, counted, counted_test, entry_of, inodes_at, inodes_seen, no_entry, pinned_if, shown, shown_entry, with_changed}
 use Rattle.vt_fs.specs.FilesystemsValue.{HoldsRoot}
 use Rattle.vt_location.specs.declared.locations.Location.{Location}
 use Rattle.vt_location.specs.declared.mounts.Mount.{Mount}
@@ -180,6 +180,13 @@ pub folded_more : {A B : Type 0} (add : B → A → B) (front : List A) (last : 
 folded_more add [] last b = refl
 folded_more add (first ∷ front) last b = folded_more add front last (add b first)
 
+-- the next one is in use
+pub shown_next : (new : List Mount) (old : List Shown) {before after : List Shown} (i : ℕ) (d : Mount) → i < length new
+    → before ≡ folded shown_by old (take i new) → after ≡ shown_by before (get_or new i d)
+    → after ≡ folded shown_by old (take (i + 1) new)
+shown_next new old i d less so_far step = step ∙ ap (λ all. shown_by all (get_or new i d)) so_far
+    ∙ sym (ap (folded shown_by old) (take_more new i d less) ∙ folded_more shown_by (take i new) (get_or new i d) old)
+
 -- What code counts
 
 pub holds : (count : ℕ) (old : Filesystems)
@@ -194,15 +201,12 @@ not_refused (Ok value) P Q limit ok less = ok
 not_refused (Err refused) P Q limit ok less = absurd (less (limit refl))
 
 -- the parts of room
-pub root_has_room : (most : ℕ) (filesystems : Filesystems) (mount : Mount)
-    → has_room most (shown filesystems) mount ≡ true
-    → uses_in ((inodes_at filesystems mount.root.filesystem.count).inode (number_of mount.root)) ≤ most
-root_has_room most filesystems mount room =
-    let first = and_parts (nat_le (uses_shown (inode_of mount.root) (shown filesystems)) most
-    && point_has_room most (shown filesystems) mount.mount_point) _ room in
-    let second = and_parts (nat_le (uses_shown (inode_of mount.root) (shown filesystems)) most) _ first.0 in
-    subst (λ n. n ≤ most) (sym (uses_are_shown mount.root.filesystem.count (number_of mount.root) filesystems))
-    (leb-true _ most second.0)
+pub root_has_room : (most : ℕ) (all : List Shown) (mount : Mount) → has_room most all mount ≡ true
+    → uses_shown (inode_of mount.root) all ≤ most
+root_has_room most all mount room =
+    let first = and_parts (nat_le (uses_shown (inode_of mount.root) all) most
+    && point_has_room most all mount.mount_point) _ room in
+    leb-true _ most (and_parts (nat_le (uses_shown (inode_of mount.root) all) most) _ first.0).0
 
 pub filesystem_has_room : (most : ℕ) (all : List Shown) (mount : Mount) → has_room most all mount ≡ true
     → mounts_shown (counted mount.root.filesystem.count) all ≤ most

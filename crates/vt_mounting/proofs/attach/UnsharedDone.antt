@@ -1,12 +1,13 @@
 -- The end of an unshare, where the inodes that the copies use are found: unshare(2) with CLONE_NEWNS.
 use Rattle.std.proofs.Common.{◌≡◌, refl, sym, ap, subst, ◌∙◌, ℕ, ◌+◌, ◌*◌, nat_eq, ◌&&◌, Bool, true, List, [], ◌∷◌, ◌++◌, filter, length, map, Option, All, nat_lt}
-use Rattle.vt_spec.proofs.Common.{IsWorld, Location, Mount, MountInvariants, Namespace, SameWorlds, Task, TaskName, ToUnshare, World, copied_mount, holds_of, list_all, mounts_of, settled}
-use Rattle.vt_mounting.proofs.Common.{Among, AreThere, CountsWhatIsInIt, FilesystemEntry, Filesystems, Grouping, GrowsTo, Has, Inode, IsHeld, KeepsTo, MountEntry, NamespaceEntry, Tasks, WorldValue, WritersHaveLayers, any_same_worlds_keep_to_numbers, are_ascending, ascending_filter, attached_in, counted, inode_at, inodes_seen, is_counted_before, mount_of, mounts_in, namespace_of, numbers_of, places_of, shown, times, typed, world_of}
+use Rattle.vt_spec.proofs.Common.{IsWorld, Location, Mount, MountInvariants, Namespace, OverlayInvariants, SameWorlds, Task, TaskName, ToUnshare, World, copied_mount, holds_of, list_all, mounts_of, settled, regrouped}
+use Rattle.vt_spec.proofs.Worlds.{filesystems-regrouped}
+use Rattle.vt_mounting.proofs.Common.{Among, AreThere, CountsWhatIsInIt, FilesystemEntry, Filesystems, Grouping, GrowsTo, Has, Inode, IsHeld, IsUnderWay, KeepsTo, MountEntry, NamespaceEntry, Tasks, WorldValue, WritersHaveLayers, any_same_worlds_keep_to_numbers, are_ascending, ascending_filter, attached_in, counted, inode_at, inodes_seen, is_counted_before, mount_of, mounts_in, namespace_of, numbers_of, places_of, shown, times, typed, world_of, given_permits_are_under_way_anywhere, given_to_task}
 use Rattle.vt_group.specs.Grouping.{are_rising}
 use Rattle.vt_location.specs.declared.mounts.Mount.{Mount as Attached}
 use Rattle.vt_mounting.specs.Attach.Copying.{copies_of}
 use Rattle.vt_mounting.proofs.detach.Writers.{left_writers}
-use Rattle.vt_mounting.specs.Detach.Events.{Permits, left_by}
+use Rattle.vt_mounting.specs.Detach.Events.{Permits, left_by, supply_of}
 use Rattle.vt_mounting.specs.Detach.NamespacesLeft.{MountsAreLeft, namespace_entry, numbers_inside, with_one_task_less}
 use Rattle.vt_mounting.specs.Detach.Uses.{with_attached, Merged, kept_of, kept_with, merged_seen, overlays_kept}
 use Rattle.vt_mounting.proofs.attach.AddedBegins as Begins
@@ -14,7 +15,7 @@ use Rattle.vt_mounting.proofs.attach.AddedBegins.{AddedMayGo, IsAdded, KeepsAdde
 use Rattle.vt_mounting.proofs.attach.GrownGroups.{ascending_rises}
 use Rattle.vt_mounting.proofs.attach.UnsharingLemmas.{copies_ascend}
 use Rattle.vt_mounting.proofs.attach.AddedUses.{gained_by, shown_by_all}
-use Rattle.vt_mounting.proofs.detach.Bridging.{IsSwept, swept_is_same}
+use Rattle.vt_mounting.proofs.detach.Bridging.{IsSwept, MayBeSwept, swept_is_same}
 use Rattle.vt_mounting.proofs.detach.Finishing.{CountsBeside, swept_held}
 use Rattle.vt_mounting.proofs.detach.LeavingNamespaces.{IsLeft, leaves}
 use Rattle.vt_mounting.proofs.detach.Midway.{Reached}
@@ -22,7 +23,6 @@ use Rattle.vt_mounting.proofs.detach.MidwayDone.{HasReached, reached_counted, re
 use Rattle.vt_mounting.proofs.attach.MovedUses as Moved
 use Rattle.vt_mounting.proofs.detach.NamespacesEnded.{ends, left_counted}
 use Rattle.vt_mounting.proofs.detach.NamespacesTyped.{CanGo, gone_numbers, nowhere_private}
-use Rattle.vt_mounting.proofs.detach.Overlaid.{keeps_itself, same_files_keep}
 use Rattle.vt_mounting.proofs.detach.Staying.{IsDone, becomes_so}
 use Rattle.vt_mounting.proofs.detach.TypedEvents.{counts_typed, swept_typed, typed_value}
 use Rattle.vt_mounting.proofs.detach.TypedWorlds.{settled_typed, settled_typed_has, typed_world}
@@ -207,7 +207,7 @@ module _ {value : WorldValue} {name : TaskName} {permits : Permits value name To
     }
 
     swept : IsSwept value ended (gained_by copies) ended_is_left.reached.lost untyped
-    swept = reached_swept reached (same_files_keep value world ended refl (keeps_itself value whole.overlays))
+    swept = reached_swept reached refl
         (ap (map (λ (n : Namespace ℕ). record n { change = 0 })) (ap (map namespace_of) (sym namespaces_are)))
 
     counts : CountsBeside untyped
@@ -230,8 +230,23 @@ module _ {value : WorldValue} {name : TaskName} {permits : Permits value name To
     takes : TakesNumbers value name ToUnshare task
     takes = record { called = permits.called; given = permits.given; inode = 0; even = refl; supply = refl }
 
+    under_way : IsUnderWay (regrouped nat_eq ended) × OverlayInvariants nat_eq (regrouped nat_eq ended)
+    under_way = subst (λ w. IsUnderWay w × OverlayInvariants nat_eq w)
+        (Worlds.ended_is from added same_copies can_go)
+        (given_permits_are_under_way_anywhere world (supply_of value ToUnshare) task ToUnshare whole.in_world
+        (given_to_task (supply_of value ToUnshare) world task ToUnshare takes.given))
+
+    ready : MayBeSwept typed_ended
+    ready = record {
+      policy = regrouped nat_eq ended;
+      under = under_way.0;
+      overlays = under_way.1;
+      left = settled_typed ended new.groups ended_is_left.has;
+      files = filesystems-regrouped ended;
+    }
+
     world_left : IsWorld nat_eq (settled nat_eq typed_ended)
-    world_left = subst (IsWorld nat_eq) typed_left (left_is_world whole takes).0
+    world_left = subst (IsWorld nat_eq) typed_left (left_is_world whole takes)
 
     typed_swept : IsSwept value typed_ended (gained_by copies) ended_is_left.reached.lost typed_new
     typed_swept = swept_typed new.groups untyped value ended (gained_by copies) ended_is_left.reached.lost swept
@@ -245,7 +260,7 @@ module _ {value : WorldValue} {name : TaskName} {permits : Permits value name To
 
     -- the settled world is code's but for change numbers
     settled_same : SameWorlds (settled nat_eq typed_ended) (world_of typed_new)
-    settled_same = swept_is_same value whole typed_ended (gained_by copies) ended_is_left.reached.lost typed_new
+    settled_same = swept_is_same value whole typed_ended ready (gained_by copies) ended_is_left.reached.lost typed_new
         typed_swept typed_has world_left
 
     keeps_numbers : KeepsTo (is_counted_before new.next) (world_of typed_new)
@@ -260,7 +275,7 @@ module _ {value : WorldValue} {name : TaskName} {permits : Permits value name To
     unshared_done =
         subst (λ mounts. IsDone value name ToUnshare (record new { mounts = mounts })) (sym ended_is_left.typed)
         (record {
-          held = swept_held value whole typed_ended world_left (gained_by copies) ended_is_left.reached.lost typed_new
+          held = swept_held value whole typed_ended ready world_left (gained_by copies) ended_is_left.reached.lost typed_new
               typed_swept typed_has typed_counts keeps_numbers
               (subst WritersHaveLayers typed_left (left_writers value whole task ToUnshare takes.given));
           becomes = becomes_so value name ToUnshare typed_new task permits.called

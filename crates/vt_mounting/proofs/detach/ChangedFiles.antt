@@ -6,7 +6,7 @@ use Rattle.vt_spec.proofs.Common.{Change, Filesystem, Fits, Fresh, Inodes, IsWor
 use Rattle.vt_spec.specs.Inodes.{changed}
 use Rattle.vt_laws_mounts.specs.Counts.BesideOverlays.{IsChangeOfPlain}
 use Rattle.vt_laws_mounts.specs.Counts.Changing.{LinksWhatIsThere, after_change, filesystem_of}
-use Rattle.vt_mounting.proofs.Common.{Among, ChangesInodes, CountsItsMounts, CountsItsUses, CountsWhatIsInIt, FilesystemEntry, Filesystems, HasOwnInodes, IsCounted, IsHeld, KeepsTo, Shown, WorldValue, WritersHaveLayers, all_from_among, among_from_all, any_same_worlds_count_alike, any_same_worlds_keep_to_numbers, are_rising, counted, counted_same, counted_test, entry_of, filesystem_seen, filesystems_seen, found_filesystem, inodes_seen, is_counted_before, is_own_number, layer_count, mounts_showing, numbers_apart_each, numbers_listed, numbers_seen, overlays_seen, permit_named, permits_keep_to_numbers, same_numbers_are_permuted, same_worlds_have_layers_alike, sameness_is_an_equivalence, shown_entry, world_of, woven_lists_are_alike}
+use Rattle.vt_mounting.proofs.Common.{Among, ChangesInodes, CountsItsMounts, CountsItsUses, CountsWhatIsInIt, FilesystemEntry, Filesystems, HasOwnInodes, IsCounted, IsHeld, KeepsTo, Shown, WorldValue, WritersHaveLayers, all_from_among, among_from_all, any_same_worlds_are_worlds, any_same_worlds_count_alike, any_same_worlds_keep_to_numbers, are_rising, counted, counted_same, counted_test, entry_of, filesystem_seen, filesystems_seen, found_filesystem, given_permits_leave_every_world, given_to_task, inodes_seen, is_counted_before, is_own_number, layer_count, mounts_showing, numbers_apart_each, numbers_listed, numbers_seen, overlays_seen, permit_named, permits_keep_to_numbers, same_numbers_are_permuted, same_worlds_have_layers_alike, sameness_is_an_equivalence, shown_entry, world_of, woven_lists_are_alike}
 use Rattle.vt_world.specs.Held.{HoldsOverlays}
 use Rattle.vt_world.proofs.counting.Lowered.{counted_lowered, counts_there}
 use Rattle.vt_laws_mounts.proofs.counts.changing.Changes.{counts_follow_changes_beside_overlays, only_files_change_beside_overlays, other_counts_stay_beside_overlays}
@@ -15,7 +15,6 @@ use Rattle.vt_laws_mounts.proofs.counts.using.Exchanged.{numbers_mapped}
 use Rattle.vt_fs.specs.FilesystemsValue.{files_seen, shown_if}
 use Rattle.vt_laws_rules.specs.Numbers.{IsSuppliedFrom}
 use Rattle.vt_laws_mounts.specs.LettingGo.TreeChanges.{with_tree}
-use Rattle.vt_laws_worlds.proofs.overlays_stay.left.Given.{same_gives_no_upper}
 use Rattle.vt_mounting.proofs.detach.Writers.{left_writers}
 use Rattle.vt_mounting.specs.Detach.Events.{Becomes, Permits, left_by, supply_of}
 use Rattle.vt_mounting.proofs.detach.ChangedNumbers.{MakesOther, none_stays}
@@ -365,8 +364,9 @@ pub files_are_changed : (value : WorldValue) (name : TaskName) (permit : Permit 
     → IsFilesEvent value name permit (with_filesystems value filesystems)
 files_are_changed value name permit location change filesystems held permits asks made = record {
   held = change_is_held value held location change filesystems made
-      (same_gives_no_upper (world_of value) (supply_of value permit) permits.task permit (world_of new) held.in_world
-      held.overlays.read_only permits.given same).0 (any_same_worlds_keep_to_numbers (is_counted_before value.next)
+      (any_same_worlds_are_worlds (left_by value permits.task permit) (world_of new) same
+      (given_permits_leave_every_world (world_of value) (supply_of value permit) permits.task permit held.in_world
+      (given_to_task (supply_of value permit) (world_of value) permits.task permit permits.given))) (any_same_worlds_keep_to_numbers (is_counted_before value.next)
       (settled nat_eq (apply nat_eq asks.named_supply (world_of value) permits.task permit).world) (world_of new)
       (subst (λ w. SameWorlds (settled nat_eq w) (world_of new)) (sym asks.applied_named)
       (change_is_swept value held location change filesystems made asks.named_rest))

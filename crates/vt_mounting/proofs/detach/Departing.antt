@@ -16,7 +16,6 @@ use Rattle.vt_mounting.proofs.detach.NamespaceMounts.{inside_stays}
 use Rattle.vt_mounting.proofs.detach.NamespacesEnded.{AllCountOneMore, ends, in_ended_is, left_counted, namespaces_are}
 use Rattle.vt_mounting.proofs.detach.NamespacesTyped.{CanGo, nowhere_private, taken_is_left}
 use Rattle.vt_mounting.proofs.detach.Staying.{IsDone, after}
-use Rattle.vt_mounting.proofs.detach.Overlaid.{keeps_itself, same_files_keep}
 use Rattle.vt_mounting.proofs.detach.TypedEvents.{typed_done}
 
 -- A task moves, and leaves the namespace `count`.
@@ -127,7 +126,7 @@ module _ {value : WorldValue} {tasks : Tasks} {more less : List Use} {count : �
     module _ (mounts : List MountEntry) (reached : HasReached value start gained going (untyped mounts) overlays) where
       left_swept : IsSwept value start gained reached.at.lost (untyped mounts)
       left_swept =
-          reached_swept reached (same_files_keep value world start refl (keeps_itself value whole.overlays))
+          reached_swept reached refl
           (ap (map (λ (n : Namespace ℕ). record n { change = 0 }))
           (namespaces_are counts next refl same_namespaces ∙ ap (map namespace_of) (sym are)))
 

@@ -5,6 +5,7 @@ use Rattle.vt_mounting.proofs.Common.{Among, CountsItsUses, Exchanges, Inode, Mo
 use Rattle.vt_location.specs.declared.locations.Location.{Location}
 use Rattle.vt_mounting.specs.Detach.Uses.{Kept, detached_entry, detached_use, inode_of, point_of, unpinned_at, without_attachment}
 use Rattle.vt_mounting.proofs.detach.Keeping.{IsKeptBut, IsShownIn, append_three, detached_in, looked_at, points_lost}
+use Rattle.vt_mounting.proofs.detach.LowerLayers.{of_lowers}
 use Rattle.vt_mounting.proofs.detach.MountsGone.{mount_looked_at}
 use Rattle.vt_mounting.proofs.detach.Moving.{nat_eq_turned}
 use Rattle.vt_mounting.proofs.detach.Shown.{found_entry}
@@ -97,7 +98,7 @@ module _ {old : WorldValue} {number : ℕ} {pending : List ℕ} {gained lost : L
         inodes = ap (λ (x : Shown). x.inodes) from.2
             ∙ (λ i. folded (unpinned_if (counted (was.count i))) (was.inodes i) (sym more_is i))
             ∙ sym (folded_append (unpinned_if f) (folded (pinned_if f) (inodes_seen was.was) gained) lost more);
-        exchanges = subst (λ all. Exchanges gained all f (world_of old) world)
+        exchanges = subst (λ all. Exchanges gained all f (of_lowers (world_of old)) (of_lowers world))
             (sym (append_three lost more (points_lost (world_of old)
             (map (detached_if number) (mounts_in k.mounts)) pending))
             ∙ ap (λ mounts. (lost ++ more) ++ points_lost (world_of old) mounts pending)

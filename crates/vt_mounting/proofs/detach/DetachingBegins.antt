@@ -9,6 +9,7 @@ use Rattle.vt_mounting.specs.Detach.Uses.{Kept}
 use Rattle.vt_mounting.proofs.detach.BesideOverlays.{lives_alike, lives_more}
 use Rattle.vt_mounting.proofs.detach.Detached.{IsDetaching, detach_first}
 use Rattle.vt_mounting.proofs.detach.Keeping.{IsKeptBut, IsShownIn, detached_in, looked_at, no_more, nowhere_still, points_lost, same_number}
+use Rattle.vt_mounting.proofs.detach.LowerLayers.{exchanges_of_lowers, of_lowers}
 use Rattle.vt_mounting.proofs.detach.MountsGone.{found_mapped, none_numbered, pending_filesystem, pending_number}
 use Rattle.vt_mounting.proofs.detach.Moving.{nat_eq_turned}
 use Rattle.vt_mounting.proofs.detach.MountsLeave.{leaves_alike, merged_alike}
@@ -256,10 +257,12 @@ module _ (old : WorldValue) (gained lost : List Inode) (world : World ℕ) (k : 
         there = was.there;
         inodes = was.inodes;
         exchanges = subst (λ all. Exchanges all (lost ++ points_lost (world_of old) (mounts_in k.mounts) gone) f
-            (world_of old) after) (no_more gained)
+            (of_lowers (world_of old)) (of_lowers after)) (no_more gained)
             (subst (λ all. Exchanges (gained ++ []) (all ++ points_lost (world_of old) (mounts_in k.mounts) gone) f
-            (world_of old) after) (no_more lost) (exchanges_follow (world_of old) world after gained (lost ++ []) []
-            (points_lost (world_of old) (mounts_in k.mounts) gone) f was.exchanges (begun_points f)));
+            (of_lowers (world_of old)) (of_lowers after)) (no_more lost)
+            (exchanges_follow (of_lowers (world_of old)) (of_lowers world) (of_lowers after) gained (lost ++ []) []
+            (points_lost (world_of old) (mounts_in k.mounts) gone) f was.exchanges
+            (exchanges_of_lowers {world = world} {after = after} refl (begun_points f))));
         mounts = was.mounts ∙ ap (λ n. n + layer_count world (counted one.count)) (sym (showing (counted one.count)));
       }
 

@@ -14,8 +14,9 @@ use Rattle.vt_mounting.proofs.detach.GoneAlone.{alone_has, alone_regroups}
 use Rattle.vt_mounting.proofs.detach.Grouped.{settled_has}
 use Rattle.vt_mounting.proofs.detach.Keeping.{IsKeptBut, detached_in, no_more}
 use Rattle.vt_mounting.proofs.detach.LocationsSeen.{seen_where_located}
+use Rattle.vt_mounting.proofs.detach.LowerLayers.{of_lowers}
 use Rattle.vt_mounting.proofs.detach.MountsLeave.{leaves_at_first, merged_at_first}
-use Rattle.vt_mounting.proofs.detach.Overlaid.{KeepsOverlays, keeps_itself, layers_of_fewer, plain_ones_are, same_files_keep}
+use Rattle.vt_mounting.proofs.detach.Overlaid.{keeps_itself, layers_of_fewer, plain_ones_are, same_files_keep}
 use Rattle.vt_mounting.proofs.detach.Remaining.{remade_with}
 use Rattle.vt_mounting.proofs.detach.OverlaysRemade.{counted_kept, seen_kept}
 use Rattle.vt_mounting.proofs.detach.Staying.{IsDone}
@@ -100,11 +101,12 @@ module _ (old : WorldValue) (after : World ℕ) (gained lost : List Inode) (new 
       ≡ filter (λ overlay. is_mounted nat_eq (in_use_of after) overlay.number) (overlays_seen old.overlays)
   overlays_left = ap overlays_seen same_overlays ∙ seen_kept is.held is.leaves is.merged
 
-  pub detached_swept : KeepsOverlays old after
+  pub detached_swept : after.filesystems ≡ (world_of old).filesystems
       → (without_changes after).namespaces ≡ (without_changes (world_of new)).namespaces
       → (without_changes after).tasks ≡ (without_changes (world_of new)).tasks → IsSwept old after gained lost new
-  detached_swept keeps namespaces tasks = record {
-    midway = keeps;
+  detached_swept files namespaces tasks = record {
+    files = files;
+    midway = same_files_keep old (world_of old) after files (keeps_itself old is.held.overlays);
     overlays = overlays_left;
     mounts = mounts_are;
     numbers = is.numbers ∙ map_twice (λ (one : Shown). counted one.count) shown_entry new.filesystems;
@@ -115,8 +117,8 @@ module _ (old : WorldValue) (after : World ℕ) (gained lost : List Inode) (new 
           count = from.count;
           there = from.there;
           inodes = from.inodes;
-          exchanges = subst (λ all. Exchanges gained all (counted from.was.count) (world_of old) (in_use_of after))
-              (no_more lost) from.exchanges;
+          exchanges = subst (λ all. Exchanges gained all (counted from.was.count) (of_lowers (world_of old))
+              (of_lowers (in_use_of after))) (no_more lost) from.exchanges;
         };
     namespaces = namespaces;
     tasks = tasks;
@@ -200,7 +202,7 @@ detached_done {value} {name} {permit} {task} gone mounts filesystems overlays wh
       applied = λ fresh. is.applied fresh ∙ taken_regroups world gone closed
           ∙ alone_regroups whole.groups live gone free;
     }) [] detaching.lost new (detached_swept value after [] detaching.lost new overlays kept_last refl refl
-    (same_files_keep value (world_of value) after refl (keeps_itself value whole.overlays)) refl refl)
+    refl refl refl)
     (settled_has after value.groups (alone_has whole.groups live gone free) (λ mount m dead. ap is_ungrouped
     (detached_is_private world gone whole.in_world.mounts.nowhere mount m
     (or_false_left (is_some mount.namespace) (is_located nat_eq after mount.number) dead))))

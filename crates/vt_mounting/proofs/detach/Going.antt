@@ -13,6 +13,7 @@ use Rattle.vt_mounting.proofs.detach.Remaining.{remade_with}
 use Rattle.vt_mounting.proofs.detach.Staying.{IsDone, after}
 use Rattle.vt_mounting.proofs.detach.LayersLeft.{later_shown}
 use Rattle.vt_mounting.proofs.detach.LostUses.{positive}
+use Rattle.vt_mounting.proofs.detach.LowerLayers.{exchanges_of_lowers, of_lowers}
 use Rattle.vt_mounting.proofs.detach.MountsLeave.{IsKeptOf, LeavesOverlays, layers_exchanged, layers_stay, leaves_alike, leaves_at_first, leaves_then, left_counted, left_shown, merged_at_first, numbers_are, overlay_was, overlays_apart, overlays_stay, shown_are, some_at_first}
 use Rattle.vt_mounting.proofs.detach.OverlaysGone.{Takes, layers_gone, merged_in}
 use Rattle.vt_mounting.proofs.detach.OverlaysKept.{merged_then}
@@ -241,18 +242,23 @@ module _ {value : WorldValue} {tasks : Tasks} {more : List Use} {left_use : Use}
 
   exchanges_are : (k : ℕ) → nat_lt 0 (mounts_showing mounted k + mounted_layer_count mounted k) ≡ true
       → ((overlay : Filesystem ℕ) → Among overlay (overlays_seen value.overlays) → nat_eq k overlay.number ≡ false)
-      → Exchanges gained lost k world (in_use_of next)
+      → Exchanges gained lost k (of_lowers world) (of_lowers (in_use_of next))
   exchanges_are k some_there no_overlay =
-      let first = uses_moved value whole tasks more less moves k in
-      let second = subst (λ (x : Mount ℕ). Exchanges [] ((x.filesystem, x.root) ∷ []) k next mounted) found_so
-      (Roots.mounts_leave_their_roots next number stand located there unused_so k) in
+      let first = exchanges_of_lowers {world = world} {after = next} refl
+      (uses_moved value whole tasks more less moves k) in
+      let second = exchanges_of_lowers {world = next} {after = mounted} refl
+      (subst (λ (x : Mount ℕ). Exchanges [] ((x.filesystem, x.root) ∷ []) k next mounted) found_so
+      (Roots.mounts_leave_their_roots next number stand located there unused_so k)) in
       let third = layers_exchanged whole leaves_next taking mount.root keeping k some_there
       (λ overlay m. no_overlay overlay (overlay_was whole leaves_next overlay m).0) in
-      let later = exchanges_follow next mounted remaining [] ((mount.filesystem, mount.root) ∷ []) []
+      let later = exchanges_follow (of_lowers next) (of_lowers mounted) (of_lowers remaining) []
+      ((mount.filesystem, mount.root) ∷ []) []
       (layers_gone mount.filesystem moved_all.overlays) k second third in
-      let all = exchanges_follow world next remaining gained lost_first [] lost_here k first later in
-      subst (Exchanges gained lost k world) (sym living_now)
-      (subst (λ all_gained. Exchanges all_gained lost k world remaining) (append-nil gained) all)
+      let all = exchanges_follow (of_lowers world) (of_lowers next) (of_lowers remaining) gained lost_first []
+      lost_here k first later in
+      subst (λ (w : World ℕ). Exchanges gained lost k (of_lowers world) (of_lowers w)) (sym living_now)
+      (subst (λ all_gained. Exchanges all_gained lost k (of_lowers world) (of_lowers remaining)) (append-nil gained)
+      all)
 
   numbers_left : map (λ (f : Filesystem ℕ). f.number) (filter is_plain_one remaining.filesystems)
       ≡ map (λ (entry : FilesystemEntry). counted entry.count) filesystems
@@ -271,6 +277,7 @@ module _ {value : WorldValue} {tasks : Tasks} {more : List Use} {left_use : Use}
 
   gone_swept : IsSwept value next gained lost new
   gone_swept = record {
+    files = refl;
     midway = keeps_next;
     overlays = seen_left
         ∙ ap (λ (w : World ℕ). filter (λ overlay. is_mounted nat_eq w overlay.number) (overlays_seen value.overlays))

@@ -7,6 +7,7 @@ use Rattle.vt_laws_mounts.specs.LettingGo.OneByOne as Looks
 use Rattle.vt_laws_mounts.proofs.letting_go.leaving.PlacesLeft.{found_in_filter}
 use Rattle.vt_location.specs.declared.locations.Location.{Location}
 use Rattle.vt_mounting.specs.Detach.Uses.{Kept}
+use Rattle.vt_mounting.proofs.detach.LowerLayers.{of_lowers}
 use Rattle.vt_mounting.proofs.detach.Moving.{nat_eq_turned}
 use Rattle.vt_mounting.proofs.detach.MountsLeave.{LeavesOverlays}
 use Rattle.vt_mounting.proofs.detach.Overlaid.{is_plain_one}
@@ -38,7 +39,7 @@ pub record IsShownIn (old : WorldValue) (gained lost later : List Inode) (world 
   pub count : one.count ≡ was.count
   pub there : AreThere (counted was.count) (inodes_seen was) gained
   pub inodes : one.inodes ≡ exchanged (counted was.count) gained lost (inodes_seen was)
-  pub exchanges : Exchanges gained (lost ++ later) (counted was.count) (world_of old) world
+  pub exchanges : Exchanges gained (lost ++ later) (counted was.count) (of_lowers (world_of old)) (of_lowers world)
   pub mounts : one.mounts ≡ mounts_showing world (counted one.count) + layer_count world (counted one.count)
 
 -- code's mount points are in the filesystems that the definitions see there

@@ -9,6 +9,7 @@ use Rattle.vt_mounting.specs.Detach.Uses as meant
 use Rattle.vt_mounting.specs.Detach.Uses.{Kept, detached_entry, is_unused, unpinned_at, unpinned_in}
 use Rattle.vt_mounting.proofs.detach.LocationsSeen.{seen_where_located}
 use Rattle.vt_mounting.proofs.detach.LostUses.{entry_found_at, entry_itself, folded_append, lost_alike, mounts_unchanged}
+use Rattle.vt_mounting.proofs.detach.LowerLayers.{of_lowers}
 use Rattle.vt_mounting.proofs.detach.MountsLeave.{LeavesOverlays}
 use Rattle.vt_mounting.proofs.detach.Overlaid.{is_plain_one}
 use Rattle.vt_mounting.proofs.detach.OverlaysGone.{merged_in}
@@ -51,7 +52,7 @@ pub record Midway (value : WorldValue) (start : World ℕ) (gained : List Inode)
   pub shown : (one : Shown) → Among one k.filesystems → IsShown value now gained lost one
   pub exchanges : (one : Shown) → Among one k.filesystems
       → Exchanges gained (lost ++ (inodes_of_uses (world_of value) left ++ points_left (world_of value) goes k.mounts))
-      (counted one.count) (world_of value) now
+      (counted one.count) (of_lowers (world_of value)) (of_lowers now)
   pub numbers : map (λ (f : Filesystem ℕ). f.number) (filter is_plain_one now.filesystems)
       ≡ map (λ (one : Shown). counted one.count) k.filesystems
   pub stand : MountsStand now
@@ -192,8 +193,8 @@ module _ {value : WorldValue} {goes : Mount ℕ → Bool} (may : MayLeave value 
       exchanges = λ one m. let from = shown_was one m in
           subst (λ count. Exchanges gained
           ((lost ++ (inode ∷ [])) ++ (inodes_of_uses world left ++ points_left world goes new.mounts))
-          (counted count) world now) (ap (λ (x : Shown). x.count) (sym from.2))
-          (subst (λ all. Exchanges gained all (counted from.0.count) world now)
+          (counted count) (of_lowers world) (of_lowers now)) (ap (λ (x : Shown). x.count) (sym from.2))
+          (subst (λ all. Exchanges gained all (counted from.0.count) (of_lowers world) (of_lowers now))
           ((λ i. lost ++ (inodes_of_uses world (u ∷ left) ++ flat_map (point_left world goes) (sym same_mounts i)))
           ∙ sym (append_assoc lost (inode ∷ []) (inodes_of_uses world left ++ points_left world goes new.mounts)))
           (mid.exchanges from.0 from.1));
@@ -391,7 +392,7 @@ module _ {value : WorldValue} {goes : Mount ℕ → Bool} (may : MayLeave value 
       exchanges = λ one m. let from = shown_before one m in
           subst (λ count. Exchanges gained
           ((lost ++ lost_here) ++ (inodes_of_uses world left ++ points_left world goes taken.mounts))
-          (counted count) world now) (ap (λ (x : Shown). x.count) (sym from.2))
+          (counted count) (of_lowers world) (of_lowers now)) (ap (λ (x : Shown). x.count) (sym from.2))
           (lost_alike ((lost ++ lost_here) ++ (inodes_of_uses world left ++ points_left world goes taken.mounts))
           (λ n. same_lost (is_inode (counted from.0.count) n)) (mid.exchanges from.0 from.1));
       numbers = mid.numbers ∙ sym (map_twice (λ (one : Shown). counted one.count) unpinned_here k.filesystems)

@@ -6,6 +6,7 @@ use Rattle.vt_laws_mounts.proofs.counts.using.MountRoots as Roots
 use Rattle.vt_mounting.specs.Detach.Uses.{Kept, is_unused, kept_of}
 use Rattle.vt_mounting.proofs.detach.Keeping.{nowhere_still}
 use Rattle.vt_mounting.proofs.detach.LostUses.{positive}
+use Rattle.vt_mounting.proofs.detach.LowerLayers.{exchanges_of_lowers}
 use Rattle.vt_mounting.proofs.detach.Midway.{IsShown, Midway, NoneUnused, Reached, gone_if, gone_number, gone_numbers, one_number_gone, point_left, points_left}
 use Rattle.vt_mounting.proofs.detach.Moving.{Moves, Use, filesystems_gained, gain, gained_overlays, gained_there, held_counts, hold_if, inodes_of_uses, is_use_on, locations, mounts_gained, same_moved_mounts, times_mapped, uses_moved, writes_on_mount}
 use Rattle.vt_mounting.proofs.detach.Staying.{after}
@@ -324,7 +325,7 @@ module _ {value : WorldValue} {tasks : Tasks} {more less : List Use} {inside : O
         (point_is_located from.0.mount (in_world from.0 from.1) from.0.mount.mount_point refl);
     shown = λ one m. let from = shown_was one m in subst (IsShown value ended gained []) (sym from.2)
         (shown_is from.0 from.1);
-    exchanges = λ one m. exchanges_are (counted one.count);
+    exchanges = λ one m. exchanges_of_lowers {world = world} {after = ended} refl (exchanges_are (counted one.count));
     numbers = ap (map (λ (f : Filesystem ℕ). f.number)) (plain_ones_are value whole.overlays)
         ∙ map_twice (λ (f : Filesystem ℕ). f.number) filesystem_seen value.filesystems
         ∙ sym (map_twice (λ (one : Shown). counted one.count) shown_entry value.filesystems)

@@ -13,7 +13,8 @@ use Rattle.vt_mounting.proofs.detach.MidwayGoes.{mount_looked_at}
 use Rattle.vt_mounting.proofs.detach.MountsLeave.{counted_lives, overlay_lives_still}
 use Rattle.vt_mounting.proofs.detach.Moving.{Use, inodes_of_uses}
 use Rattle.vt_mounting.proofs.detach.LostUses.{positive}
-use Rattle.vt_mounting.proofs.detach.Overlaid.{KeepsOverlays, is_plain_one, layers_of_fewer}
+use Rattle.vt_mounting.proofs.detach.LowerLayers.{of_lowers}
+use Rattle.vt_mounting.proofs.detach.Overlaid.{is_plain_one, keeps_itself, layers_of_fewer, same_files_keep}
 use Rattle.vt_mounting.proofs.detach.OverlaysGone.{merged_in}
 use Rattle.vt_mounting.proofs.detach.OverlaysRemade.{counted_kept, seen_kept}
 
@@ -151,11 +152,12 @@ module _ {value : WorldValue} {start : World ℕ} {gained : List Inode} {goes : 
   shown_of : (entry : FilesystemEntry) → Among entry new.filesystems → Among (shown_entry entry) k.filesystems
   shown_of entry m = among-map shown_entry new.filesystems entry m
 
-  pub reached_swept : KeepsOverlays value start
+  pub reached_swept : start.filesystems ≡ (world_of value).filesystems
       → (without_changes start).namespaces ≡ (without_changes (world_of new)).namespaces
       → IsSwept value start gained at.lost new
-  reached_swept keeps namespaces = record {
-    midway = keeps;
+  reached_swept files namespaces = record {
+    files = files;
+    midway = same_files_keep value (world_of value) start files (keeps_itself value mid.held.overlays);
     overlays = overlays_left
         ∙ ap (λ (w : World ℕ). filter (λ overlay. is_mounted nat_eq w overlay.number) (overlays_seen value.overlays))
         (sym living_is);
@@ -168,9 +170,11 @@ module _ {value : WorldValue} {start : World ℕ} {gained : List Inode} {goes : 
       count = is.count;
       there = is.there;
       inodes = is.inodes;
-      exchanges = subst (λ count. Exchanges gained at.lost (counted count) (world_of value) (in_use_of start)) is.count
-          (subst (λ w. Exchanges gained at.lost (counted entry.count) (world_of value) w) (sym living_is)
-          (subst (λ lost. Exchanges gained lost (counted entry.count) (world_of value) now) nothing_rests
+      exchanges = subst (λ count. Exchanges gained at.lost (counted count) (of_lowers (world_of value))
+          (of_lowers (in_use_of start))) is.count
+          (subst (λ w. Exchanges gained at.lost (counted entry.count) (of_lowers (world_of value)) (of_lowers w))
+          (sym living_is) (subst (λ lost. Exchanges gained lost (counted entry.count) (of_lowers (world_of value))
+          (of_lowers now)) nothing_rests
           (mid.exchanges (shown_entry entry) (shown_of entry m))));
     };
     namespaces = namespaces;

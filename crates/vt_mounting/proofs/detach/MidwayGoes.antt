@@ -9,6 +9,7 @@ use Rattle.vt_mounting.specs.Detach.Uses as meant
 use Rattle.vt_mounting.specs.Detach.Uses.{Kept, is_unused, let_go_entry}
 use Rattle.vt_mounting.proofs.detach.LayersLeft.{later_shown}
 use Rattle.vt_mounting.proofs.detach.LostUses.{entry_found_at, entry_itself, flat_map_less, folded_append, one_number_less, positive}
+use Rattle.vt_mounting.proofs.detach.LowerLayers.{exchanges_of_lowers, of_lowers}
 use Rattle.vt_mounting.proofs.detach.Midway.{IsShown, MayLeave, Midway, NoneUnused, Reached, UnusedOnly, gone_if, gone_number, one_number_kept, point_left, points_left, unused_parts}
 use Rattle.vt_mounting.proofs.detach.Moving.{Use, inodes_of_uses, nat_eq_turned}
 use Rattle.vt_mounting.proofs.detach.BesideOverlays.{lives_more}
@@ -319,10 +320,11 @@ module _ {value : WorldValue} {start : World ℕ} {gained : List Inode} {goes : 
 
     lost_in : (c : ℕ) → nat_lt 0 (mounts_showing first c + mounted_layer_count first c) ≡ true
         → ((overlay : Filesystem ℕ) → Among overlay (overlays_seen value.overlays) → nat_eq c overlay.number ≡ false)
-        → Exchanges [] lost_here c now after
-    lost_in c there no_overlay = exchanges_follow now first after [] (root ∷ []) [] (layers_gone f k.overlays) c
+        → Exchanges [] lost_here c (of_lowers now) (of_lowers after)
+    lost_in c there no_overlay = exchanges_follow (of_lowers now) (of_lowers first) (of_lowers after) [] (root ∷ []) []
+        (layers_gone f k.overlays) c (exchanges_of_lowers {world = now} {after = first} refl
         (subst (λ (x : Mount ℕ). Exchanges [] ((x.filesystem, x.root) ∷ []) c now first) mount_is
-        (Roots.mounts_leave_their_roots now number mid.stand mid.located mount_listed not_used c))
+        (Roots.mounts_leave_their_roots now number mid.stand mid.located mount_listed not_used c)))
         (layers_exchanged whole mid.leaves taking mount.root keeping c there (λ overlay m. no_overlay overlay
         (overlay_was whole mid.leaves overlay m).0))
 
@@ -339,15 +341,17 @@ module _ {value : WorldValue} {start : World ℕ} {gained : List Inode} {goes : 
 
     exchanges_are : (new : Shown) → Among new kept_left.filesystems
         → Exchanges gained (lost_now ++ (inodes_of_uses world left ++ points_left world goes (without number k.mounts)))
-        (counted new.count) world after
+        (counted new.count) (of_lowers world) (of_lowers after)
     exchanges_are new m =
         let from = shown_was new m in
         let c = counted from.0.count in
         let rest = inodes_of_uses world left ++ points_left world goes k.mounts in
         subst (λ n. Exchanges gained (lost_now ++
-        (inodes_of_uses world left ++ points_left world goes (without number k.mounts))) n world after)
+        (inodes_of_uses world left ++ points_left world goes (without number k.mounts))) n (of_lowers world)
+        (of_lowers after))
         (sym (ap counted (same_count new m)))
-        (subst (λ points. Exchanges gained (lost_now ++ (inodes_of_uses world left ++ points)) c world after)
+        (subst (λ points. Exchanges gained (lost_now ++ (inodes_of_uses world left ++ points)) c (of_lowers world)
+        (of_lowers after))
         (sym same_points) (exchanges_between lost rest (mid.exchanges from.0 from.1)
         (lost_in c (counted_there new m) (keeping.apart from.0 from.1))))
 

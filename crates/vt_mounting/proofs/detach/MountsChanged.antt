@@ -8,6 +8,7 @@ use Rattle.vt_laws_mounts.specs.LettingGo.InUse.{AllInUse}
 use Rattle.vt_mounting.proofs.detach.Bridging.{IsSwept}
 use Rattle.vt_mounting.proofs.detach.Finishing.{CountsBeside, IsApplied, finished}
 use Rattle.vt_mounting.proofs.detach.Grouped.{changed_has}
+use Rattle.vt_mounting.proofs.detach.LowerLayers.{exchanges_of_lowers, of_lowers}
 use Rattle.vt_mounting.proofs.detach.Moving.{exchanged_shown}
 use Rattle.vt_mounting.proofs.detach.Remaining.{remade}
 use Rattle.vt_mounting.proofs.detach.Shown.{found_entry}
@@ -158,6 +159,7 @@ module _ {value : WorldValue} (whole : IsHeld value) (number : ℕ) {change : Mo
 
     swept : IsSwept value next_of gained lost new
     swept = record {
+      files = refl;
       midway = same_files_keep value (world_of value) next_of refl (keeps_itself value whole.overlays);
       overlays = all_shown value (in_use_of next_of) (still_mounted value whole (in_use_of next_of) (λ filesystem.
           ap (λ (world : World ℕ). is_mounted nat_eq world filesystem) living_is ∙ same_mounted filesystem));
@@ -170,8 +172,9 @@ module _ {value : WorldValue} (whole : IsHeld value) (number : ℕ) {change : Mo
         count = ap (λ (one : Shown). one.count) from.2;
         there = there from.0 from.1;
         inodes = ap (λ (one : Shown). one.inodes) from.2;
-        exchanges = subst (λ world. Exchanges gained lost (counted from.0.count) (world_of value) world) (sym living_is)
-            (exchanges (counted from.0.count));
+        exchanges = subst (λ (world : World ℕ). Exchanges gained lost (counted from.0.count)
+            (of_lowers (world_of value)) (of_lowers world)) (sym living_is)
+            (exchanges_of_lowers {world = world_of value} {after = next_of} refl (exchanges (counted from.0.count)));
       };
       namespaces = refl;
       tasks = refl;

@@ -18,6 +18,7 @@ use Rattle.vt_mounting.proofs.detach.MountsLeave.{IsKeptOf, layers_exchanged, la
 use Rattle.vt_mounting.proofs.detach.OverlaysGone.{Takes, layers_gone, merged_in}
 use Rattle.vt_mounting.proofs.detach.OverlaysKept.{merged_then}
 use Rattle.vt_mounting.proofs.detach.LostUses.{folded_append, positive}
+use Rattle.vt_mounting.proofs.detach.LowerLayers.{exchanges_of_lowers, of_lowers}
 use Rattle.vt_mounting.proofs.detach.Overlaid.{is_plain_one, overlay_apart}
 
 -- Mounts that are changed, by their numbers
@@ -226,14 +227,15 @@ module _ {old : WorldValue} {number : ℕ} {pending : List ℕ} {gained lost : L
 
       root_goes : (n : ℕ) → nat_lt 0 (mounts_showing mounted n + mounted_layer_count mounted n) ≡ true
           → ((overlay : Filesystem ℕ) → Among overlay (overlays_seen old.overlays) → nat_eq n overlay.number ≡ false)
-          → Exchanges [] lost_here n world remaining
+          → Exchanges [] lost_here n (of_lowers world) (of_lowers remaining)
       root_goes n some_there others =
-          let first = subst (λ inode. Exchanges [] (inode ∷ []) n world mounted) root_is
-          (Roots.mounts_leave_their_roots world number is.stand is.located mount_listed unused_so n) in
+          let first = exchanges_of_lowers {world = world} {after = mounted} refl
+          (subst (λ inode. Exchanges [] (inode ∷ []) n world mounted) root_is
+          (Roots.mounts_leave_their_roots world number is.stand is.located mount_listed unused_so n)) in
           let second = layers_exchanged is.held is.leaves taking mount.root keeping n some_there
           (λ overlay m. others overlay (overlay_was is.held is.leaves overlay m).0) in
-          exchanges_follow world mounted remaining [] (root ∷ []) [] (layers_gone mount.filesystem k.overlays) n first
-          second
+          exchanges_follow (of_lowers world) (of_lowers mounted) (of_lowers remaining) [] (root ∷ []) []
+          (layers_gone mount.filesystem k.overlays) n first second
 
       -- a place that stays
       stays_there : (n : ℕ) → is_some (mount_numbered nat_eq world n).namespace ≡ true
@@ -322,7 +324,8 @@ module _ {old : WorldValue} {number : ℕ} {pending : List ℕ} {gained lost : L
                 ∙ (λ i. folded (unpinned_if (counted (was.count i))) (was.inodes i) lost_here)
                 ∙ sym (folded_append (unpinned_if n)
                 (folded (pinned_if n) (inodes_seen was.was) gained) lost lost_here);
-            exchanges = subst (λ rest. Exchanges gained ((lost ++ lost_here) ++ rest) n (world_of old) remaining)
+            exchanges = subst (λ rest. Exchanges gained ((lost ++ lost_here) ++ rest) n (of_lowers (world_of old))
+                (of_lowers remaining))
                 (sym later_is)
                 (exchanges_between lost later was.exchanges
                 (root_goes n some_there (overlay_apart is.held was.was was.among)));

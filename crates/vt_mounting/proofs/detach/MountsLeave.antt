@@ -1,8 +1,8 @@
 -- A mount goes, and the world is without what it alone showed: a plain filesystem, or an overlay and filesystems of its
 -- layers.
-use Rattle.std.proofs.Common.{◌≡◌, refl, sym, ap, subst, ◌∙◌, ℕ, ◌+◌, ◌-◌, nat_eq, nat_lt, eqb-true, eq-eqb, Bool, true, false, true≢false, cond, not, ◌&&◌, List, [], ◌∷◌, map, filter, find, flat_map, Option, Some, None, is_some, unwrap_or, arith, map-id}
-use Rattle.vt_spec.proofs.Common.{Filesystem, World, any_pair, filesystem_lives, folded, is_mounted, is_overlay, map_alike, map_twice, no_filesystem, not-true, of_overlay, pair-filter, without_dead_filesystems}
-use Rattle.vt_mounting.proofs.Common.{Among, CountsItsMounts, Exchanges, FilesystemEntry, FilesystemsInUse, Inode, IsHeld, IsMountedSoOften, Shown, WorldValue, all_in_use, among-filter, among-from_filter, among-from_map, among_from_all, among_from_list_all, are_rising, counted, filesystem_seen, filter-map, filter_alike, filter_all, filter_twice, flat_map_alike, found_in, layer_count, layers_among, list_all_from_among, mounted_layer_count, mounted_while_counted, mounts_showing, or_left, overlay_seen, overlays_seen, times, without_mount, world_of}
+use Rattle.std.proofs.Common.{◌≡◌, refl, sym, ap, subst, ◌∙◌, ℕ, ◌+◌, ◌-◌, nat_eq, nat_lt, eqb-true, eq-eqb, Bool, true, false, true≢false, cond, not, ◌&&◌, List, [], ◌∷◌, map, filter, find, flat_map, Option, Some, None, unwrap_or, arith, map-id}
+use Rattle.vt_spec.proofs.Common.{Filesystem, World, any_pair, filesystem_lives, folded, is_mounted, is_overlay, map_alike, map_twice, no_filesystem, not-true, pair-filter, without_dead_filesystems}
+use Rattle.vt_mounting.proofs.Common.{Among, CountsItsMounts, Exchanges, FilesystemEntry, FilesystemsInUse, Inode, IsHeld, IsMountedSoOften, Shown, WorldValue, all_in_use, among-filter, among-from_filter, among-from_map, among_from_all, among_from_list_all, are_rising, counted, filesystem_seen, filter-map, filter_alike, filter_all, filter_twice, found_in, layer_count, layers_among, list_all_from_among, mounted_layer_count, mounted_while_counted, mounts_showing, or_left, overlay_seen, overlays_seen, times, without_mount, world_of}
 use Rattle.vt_laws_mounts.specs.Counts.OverlaysStay.{HasNoLayerIn}
 use Rattle.vt_laws_mounts.proofs.counts.overlays.FilesystemUses.{overlays_take_their_uses}
 use Rattle.vt_laws_mounts.proofs.counts.overlays.Living.{layers_left_are_mounted, lives_while_counted, lives_while_mounted}
@@ -13,9 +13,10 @@ use Rattle.vt_mounting.specs.Detach.Uses.{Merged, let_go_filesystem, merged_at, 
 use Rattle.vt_mounting.proofs.detach.BesideOverlays.{mounted_at_first, no_layer_midway, some_of_both}
 use Rattle.vt_mounting.proofs.detach.LayersLeft.{go_one_by_one, is_some_left, later_shown}
 use Rattle.vt_mounting.proofs.detach.LostUses.{found_unless, positive}
+use Rattle.vt_mounting.proofs.detach.LowerLayers.{all_use_lowers, numbered_of_lowers, of_lowers, overlays_of_lowers, with_lowers}
 use Rattle.vt_mounting.proofs.detach.Moving.{nat_eq_turned}
 use Rattle.vt_mounting.proofs.detach.Overlaid.{is_plain_one, overlays_are, plain_one_among}
-use Rattle.vt_mounting.proofs.detach.OverlaysGone.{Takes, layers_go, layers_gone, layers_gone_by, layers_of_overlays, layers_parted, layers_used, merged_in, uses_layers}
+use Rattle.vt_mounting.proofs.detach.OverlaysGone.{Takes, layers_go, layers_gone, layers_gone_by, layers_of_overlays, layers_parted, layers_used, merged_in}
 
 -- A world midway in an event has those overlays of before that mounts show still.
 pub record LeavesOverlays (old : WorldValue) (world : World ℕ) : Type 0 where
@@ -325,22 +326,21 @@ module _ {old : WorldValue} (held : IsHeld old) {world : World ℕ} (leaves : Le
       -- and its inodes lose a use for each layer that goes.
       pub layers_exchanged : (n : ℕ) → nat_lt 0 (counts n) ≡ true
           → ((overlay : Filesystem ℕ) → Among overlay (filter is_overlay world.filesystems)
-          → nat_eq n overlay.number ≡ false) → Exchanges [] (layers_gone filesystem overlays) n mounted left
-      layers_exchanged n some_there others = subst (λ all. Exchanges [] all n mounted left)
-          (flat_map_alike used_by_filesystem layers_used
-          (filter (λ f. not (is_shown f)) (filter is_overlay world.filesystems))
-          (λ overlay m. uses_layers overlay (no_upper overlay
-          (among-from_filter (λ f. not (is_shown f)) (filter is_overlay world.filesystems) overlay m).0)) ∙ gone_is)
-          (overlays_take_their_uses mounted left is_shown n refl refl overlays_stay
+          → nat_eq n overlay.number ≡ false)
+          → Exchanges [] (layers_gone filesystem overlays) n (of_lowers mounted) (of_lowers left)
+      layers_exchanged n some_there others = subst (λ all. Exchanges [] all n (of_lowers mounted) (of_lowers left))
+          (ap (flat_map used_by_filesystem) (ap (filter (λ f. not (is_shown f))) (overlays_of_lowers mounted)
+          ∙ filter-map (λ f. not (is_shown f)) with_lowers (filter is_overlay world.filesystems) (λ f. refl))
+          ∙ all_use_lowers (filter (λ f. not (is_shown f)) (filter is_overlay world.filesystems)) ∙ gone_is)
+          (overlays_take_their_uses (of_lowers mounted) (of_lowers left) is_shown n refl refl
+          (overlays_of_lowers left ∙ ap (map with_lowers) overlays_stay
+          ∙ sym (filter-map is_shown with_lowers (filter is_overlay world.filesystems) (λ f. refl))
+          ∙ ap (filter is_shown) (sym (overlays_of_lowers mounted)))
+          (numbered_of_lowers left n ∙ ap with_lowers
           (ap (λ all. unwrap_or (find (λ (x : Filesystem ℕ). nat_eq n x.number) all) (no_filesystem n)) left_are
-          ∙ found_unless stays world.filesystems n (λ x m e. by x m e (is_overlay x) refl)))
+          ∙ found_unless stays world.filesystems n (λ x m e. by x m e (is_overlay x) refl))
+          ∙ sym (numbered_of_lowers mounted n)))
         where
-          no_upper : (overlay : Filesystem ℕ) → Among overlay (filter is_overlay world.filesystems)
-              → of_overlay false (λ o. is_some o.upper) overlay ≡ false
-          no_upper overlay m = among_from_all (λ (f : Filesystem ℕ). of_overlay false (λ o. is_some o.upper) f ≡ false)
-              (world_of old).filesystems held.overlays.read_only overlay
-              (among_before overlay (overlay_was overlay m).0).0
-
           by : (x : Filesystem ℕ) → Among x world.filesystems → x.number ≡ n → (b : Bool) → is_overlay x ≡ b
               → cond b (is_shown x) (nat_lt 0 (counts x.number)) ≡ true
           by x m e true o = absurd (true≢false (sym (eq-eqb n x.number (sym e))

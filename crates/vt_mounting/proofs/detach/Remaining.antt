@@ -6,6 +6,7 @@ use Rattle.vt_mounting.specs.Detach.Uses.{Merged, kept_of, kept_with, overlays_k
 use Rattle.vt_mounting.proofs.detach.Bridging.{IsSwept}
 use Rattle.vt_mounting.proofs.detach.Finishing.{CountsBeside, IsApplied, finished}
 use Rattle.vt_mounting.proofs.detach.Grouped.{left_has}
+use Rattle.vt_mounting.proofs.detach.LowerLayers.{exchanges_of_lowers, of_lowers}
 use Rattle.vt_mounting.proofs.detach.Moving.{Moves, Use, entry_counts, exchanged_shown, filesystems_moved, gained_there, held_counts, hold_if, inodes_of_uses, mounts_moved, moved_kept, release_if, released_counts, uses_moved}
 use Rattle.vt_mounting.proofs.detach.Overlaid.{all_shown, is_plain_one, keeps_itself, layers_kept, overlays_counted, plain_ones_are, same_files_keep, still_mounted}
 use Rattle.vt_mounting.proofs.detach.Staying.{IsDone, after}
@@ -87,6 +88,7 @@ module _ (value : WorldValue) (whole : IsHeld value) (tasks : Tasks) (more less 
 
     pub remains_swept : IsSwept value next gained lost (remade value mounts filesystems tasks)
     remains_swept = record {
+      files = refl;
       midway = same_files_keep value (world_of value) next refl (keeps_itself value whole.overlays);
       overlays = all_shown value (in_use_of next) (still_mounted value whole (in_use_of next) (λ number.
           ap (λ (world : World ℕ). is_mounted nat_eq world number) living_is));
@@ -99,8 +101,10 @@ module _ (value : WorldValue) (whole : IsHeld value) (tasks : Tasks) (more less 
         count = ap (λ one. one.count) from.2;
         there = gained_there value whole tasks more less moves from.0 from.1;
         inodes = ap (λ one. one.inodes) from.2;
-        exchanges = subst (λ world. Exchanges gained lost (counted from.0.count) (world_of value) world) (sym living_is)
-            (uses_moved value whole tasks more less moves (counted from.0.count));
+        exchanges = subst (λ (world : World ℕ). Exchanges gained lost (counted from.0.count)
+            (of_lowers (world_of value)) (of_lowers world)) (sym living_is)
+            (exchanges_of_lowers {world = world_of value} {after = next} refl
+            (uses_moved value whole tasks more less moves (counted from.0.count)));
       };
       namespaces = refl;
       tasks = refl;

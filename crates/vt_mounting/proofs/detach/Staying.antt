@@ -2,7 +2,7 @@
 use Rattle.std.proofs.Common.{◌≡◌, refl, sym, ap, subst, ◌∙◌, ℕ, nat_eq, eq-eqb, true, [], Some, arith, option_map, unwrap_or}
 use Rattle.vt_spec.proofs.Common.{Credentials, Filesystem, Fresh, IsWorld, Location, Permit, SameWorlds, Task, TaskName, ToSetCredentials, ToSetUmask, all_locations, apply, common_steps, located_in, locations_of, same_Some, settled, task_called, with_dropped, with_task}
 use Rattle.vt_spec.specs.Machine.World.{first_credentials}
-use Rattle.vt_mounting.proofs.Common.{CountsItsMounts, CountsItsUses, CountsWhatIsInIt, IsGiven, IsHeld, KeepsTo, Tasks, WorldValue, WritersHaveLayers, all_from_among, among_from_all, any_from_among, changed_by, changed_called, counted, filesystem_seen, given_permits_give_no_upper, inode_uses, inodes_seen, is_counted_before, list_all_from_among, one_if, permit_named, permits_keep_to_numbers, replaced, sameness_is_an_equivalence, times, world_of, writes_of, writes_of_task, writes_on}
+use Rattle.vt_mounting.proofs.Common.{CountsItsMounts, CountsItsUses, CountsWhatIsInIt, IsGiven, IsHeld, KeepsTo, Tasks, WorldValue, WritersHaveLayers, all_from_among, among_from_all, any_from_among, changed_by, changed_called, counted, filesystem_seen, given_permits_leave_every_world, given_to_task, inode_uses, inodes_seen, is_counted_before, list_all_from_among, one_if, permit_named, permits_keep_to_numbers, replaced, sameness_is_an_equivalence, times, world_of, writes_of, writes_of_task, writes_on}
 use Rattle.vt_world.proofs.counting.Lowered.{counted_lowered, counts_there}
 use Rattle.vt_laws_mounts.specs.LettingGo.Leaving.{only_these_are_left}
 use Rattle.vt_laws_mounts.proofs.letting_go.sweeps.OfWorlds.{worlds_are_settled}
@@ -126,8 +126,8 @@ module _ {value : WorldValue} {name : TaskName} {permit : Permit ℕ} {task new 
       let own : one_if (nat_eq namespace new.namespace) ≡ one_if (nat_eq namespace task.namespace) = ap
       (λ number. one_if (nat_eq namespace number)) stays.same_namespace in
       omega (arith, moved, own)) (subst (IsWorld nat_eq) (stayed_exactly (supply_of value permit))
-      (given_permits_give_no_upper (world_of value) (supply_of value permit) task permit held.in_world
-      held.overlays.read_only stays.given).0) (subst (KeepsTo (is_counted_before value.next)) (stayed_exactly (λ k. 0))
+      (given_permits_leave_every_world (world_of value) (supply_of value permit) task permit held.in_world
+      (given_to_task (supply_of value permit) (world_of value) task permit stays.given))) (subst (KeepsTo (is_counted_before value.next)) (stayed_exactly (λ k. 0))
       (permits_keep_to_numbers (is_counted_before value.next) (λ k. 0)
       (world_of value) task permit stays.given.called held.given (λ k. refl) stays.named))
       (subst WritersHaveLayers (stayed_exactly (supply_of value permit))

@@ -1,9 +1,11 @@
 -- Events after which mounts have the types of other groups: they are done if they are but for the types.
 use Rattle.std.proofs.Common.{◌≡◌, refl, sym, ap, subst, ◌∙◌, ◌+◌, ℕ, nat_eq, false, List, filter, map, is_some}
 use Rattle.vt_spec.proofs.Common.{Filesystem, Mount, Permit, Private, Task, TaskName, World, is_mounted, map_twice, regrouped}
+use Rattle.vt_spec.proofs.Worlds.{filesystems-regrouped}
 use Rattle.vt_mounting.proofs.Common.{Among, CountsItsUses, CountsWhatIsInIt, Exchanges, Grouping, Has, Inode, IsHeld, IsMountedSoOften, MountEntry, WorldValue, all_from_among, among-from_map, among_from_all, counted, filter_alike, in_use_of, layer_count, mounts_in, mounts_showing, overlays_seen, times, typed_by, typed_entry, world_of}
 use Rattle.vt_mounting.proofs.detach.Bridging.{IsSwept}
 use Rattle.vt_mounting.proofs.detach.Finishing.{CountsBeside, IsApplied, finished_as}
+use Rattle.vt_mounting.proofs.detach.LowerLayers.{of_lowers}
 use Rattle.vt_mounting.proofs.detach.Overlaid.{is_plain_one, same_files_keep}
 use Rattle.vt_mounting.proofs.detach.Staying.{IsDone}
 use Rattle.vt_mounting.proofs.detach.TypedWorlds.{exchanges_typed, living_typed, mounted_still, mounts_showing_typed, settled_typed, settled_typed_has, typed_world}
@@ -20,6 +22,7 @@ module _ (groups : Grouping) (new : WorldValue) where
   pub swept_typed : (old : WorldValue) (start : World ℕ) (gained lost : List Inode) → IsSwept old start gained lost new
       → IsSwept old (typed_world groups start) gained lost (typed_value groups new)
   swept_typed old start gained lost swept = record {
+    files = swept.files;
     midway = same_files_keep old start (typed_world groups start) refl swept.midway;
     overlays = swept.overlays
         ∙ filter_alike (λ (overlay : Filesystem ℕ). is_mounted nat_eq (in_use_of start) overlay.number)
@@ -35,9 +38,9 @@ module _ (groups : Grouping) (new : WorldValue) where
       count = from.count;
       there = from.there;
       inodes = from.inodes;
-      exchanges = subst (Exchanges gained lost (counted from.was.count) (world_of old))
-          (sym (living_typed groups start))
-          (exchanges_typed groups from.exchanges);
+      exchanges = subst (λ (w : World ℕ). Exchanges gained lost (counted from.was.count) (of_lowers (world_of old))
+          (of_lowers w)) (sym (living_typed groups start))
+          (exchanges_typed groups {world = of_lowers (in_use_of start)} from.exchanges);
     };
     namespaces = swept.namespaces;
     tasks = swept.tasks;
@@ -77,6 +80,6 @@ module _ {value : WorldValue} (whole : IsHeld value) {name : TaskName} {permit :
       → CountsBeside new → new.next ≡ value.next → IsDone value name permit (typed_value groups new)
   typed_done {gained} {lost} {new} swept counts next =
       finished_as value whole name permit task (regrouped nat_eq start) is (typed_world groups start)
-      (settled_typed start groups has) gained lost (typed_value groups new)
+      (settled_typed start groups has) (filesystems-regrouped start) gained lost (typed_value groups new)
       (swept_typed groups new value start gained lost swept)
       (settled_typed_has start groups has nowhere) (counts_typed groups new counts) next

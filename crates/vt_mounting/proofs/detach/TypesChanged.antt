@@ -3,7 +3,7 @@
 -- MS_UNBINDABLE, and MS_REC. Whatever groups there are, the code's world is the one that the policy leaves.
 use Rattle.std.proofs.Common.{◌≡◌, refl, sym, ap, subst, ◌∙◌, ◌+◌, ℕ, nat_eq, Bool, true, false, cond, List, [], ◌∷◌, ◌++◌, map, filter, flat_map, Option, None, filter_map}
 use Rattle.vt_spec.proofs.Common.{Filesystem, IsWorld, Location, Mount, Propagation, SameWorlds, TaskName, ToSetType, TypeWord, World, all_locations, cons_option, has_members, layers_in, list_any, located_in, lost_a_group, map_twice, named_in, named_mounts, numbers_by, objects_of_overlay, regrouped, regrouped_by, retyped, retyped_mount, root_of, settled, shown-mapped, with_new_groups, without_dead_groups}
-use Rattle.vt_mounting.proofs.Common.{CountsItsMounts, CountsItsUses, CountsWhatIsInIt, Grouping, Has, IsCounted, IsHeld, KeepsTo, MountEntry, WorldValue, WritersHaveLayers, all_from_among, all_in_use, among-from_map, among_from_all, counted, counts_from, filesystem_seen, given_permits_give_no_upper, inode_uses, inodes_seen, is_counted_before, layer_count, master_in, mounts_in, mounts_showing, numbers_of, peers_of, sameness_is_an_equivalence, times, world_of}
+use Rattle.vt_mounting.proofs.Common.{CountsItsMounts, CountsItsUses, CountsWhatIsInIt, Grouping, Has, IsCounted, IsHeld, KeepsTo, MountEntry, WorldValue, WritersHaveLayers, all_from_among, all_in_use, among-from_map, among_from_all, counted, counts_from, filesystem_seen, given_permits_leave_every_world, given_to_task, inode_uses, inodes_seen, is_counted_before, layer_count, master_in, mounts_in, mounts_showing, numbers_of, peers_of, sameness_is_an_equivalence, times, world_of}
 use Rattle.vt_world.proofs.counting.Lowered.{counted_lowered, counts_there}
 use Rattle.vt_group.specs.Grouping.{are_rising}
 use Rattle.vt_laws_mounts.specs.LettingGo.Detaching.{with_changed}
@@ -209,8 +209,10 @@ module _ {value : WorldValue} {name : TaskName} {number : ℕ} {word : TypeWord}
         (retyped_value retypes next)
     types_are_set next given = record {
       held = types_held retypes next (subst (IsWorld nat_eq) settles
-          (given_permits_give_no_upper (world_of value) (supply_of value (ToSetType number word recursive)) permits.task
-          (ToSetType number word recursive) whole.in_world whole.overlays.read_only permits.given).0) given
+          (given_permits_leave_every_world (world_of value) (supply_of value (ToSetType number word recursive))
+          permits.task (ToSetType number word recursive) whole.in_world
+          (given_to_task (supply_of value (ToSetType number word recursive)) (world_of value) permits.task
+          (ToSetType number word recursive) permits.given))) given
           (subst WritersHaveLayers settles
           (left_writers value whole permits.task (ToSetType number word recursive) permits.given));
       becomes = becomes_so value name (ToSetType number word recursive)

@@ -1,5 +1,7 @@
 -- Mounts, and a store of filesystems, as they are counted.
-use Rattle.std.specs.Prelude.{Bool, List, filter, map, ℕ, ◌≡◌}
+use Rattle.std.specs.Prelude.{All, Bool, List, None, false, filter, map, nat_eq, ℕ, ◌≡◌}
+use Rattle.std.specs.List.{list_any}
+use Rattle.vt_fs.specs.FilesystemsValue.{Shown, shown}
 use Rattle.vt_laws_mounts.specs.LettingGo.OneByOne.{Inode}
 use Rattle.vt_location.specs.Locations.{inode_of}
 use Rattle.vt_location.specs.Numbers.{counted}
@@ -37,3 +39,16 @@ OverlaysLeft old new = (stays : ℕ × LayeredValue → Bool) × (under_counts n
 -- or all, and none comes
 abbrev pub OverlaysStay : Overlays → Overlays → Type 0
 OverlaysStay old new = under_counts new ≡ under_counts old
+
+-- some filesystem has this count
+abbrev pub has_count : ℕ → List Shown → Bool
+has_count count all = list_any (λ (one : Shown). nat_eq count one.count) all
+
+-- An overlay counts no uses of its nodes, as it has no upper layer; and no plain filesystem has its number.
+pub record CountsNoUses (plain : List Shown) (one : ℕ × LayeredValue) : Type 0 where
+  pub low : one.1.above ≡ None
+  pub apart : has_count one.0 plain ≡ false
+
+-- So do all overlays of a store: then a use of a node is one of an inode in a plain filesystem, if it is counted.
+abbrev pub CountNoUses : StoreValue → Type 0
+CountNoUses store = All (CountsNoUses (shown store.plain)) (under_counts store.overlays)

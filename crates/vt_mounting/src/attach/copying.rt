@@ -10,7 +10,7 @@ ghost use Rattle.vt_spec.specs.Machine.Mounts as meant;
 ghost use Rattle.vt_spec.specs.Machine.Namespaces.{location_on_copy};
 ghost use Rattle.vt_mount.specs.Attached.{AreOf, are_rising, attached_in};
 ghost use Rattle.vt_mounting.specs.Attach.Copying.{CopiesAttached, copied_by, copies_of, copy_numbers, moved_in, with_use_moved};
-ghost use Rattle.vt_mounting.specs.Detach.Stored.{OverlaysStay, kept};
+ghost use Rattle.vt_mounting.specs.Detach.Stored.{CountNoUses, OverlaysStay, kept};
 
 use crate::attach::planned::{Planned, attach_planned};
 use std::alloc::{AllocError, Global};
@@ -33,9 +33,11 @@ pub fn attach_copies(
 ) -> Result<(), AllocError>
     requires room { next + 2 * length (attached_in (namespace_number namespace) mounts.old) + 1 < u64.MAX }
     requires before { list_all (λ mount. nat_lt mount.number (counted next)) (mounts_in mounts.old) ≡ true }
+    requires none { CountNoUses store.old }
     ensures ok { OnOk result (CopiesAttached next (namespace_number namespace) (kept mounts.old store.old) groups.old
         (kept mounts.new store.new) groups.new) }
     ensures overlays { OverlaysStay store.old.overlays store.new.overlays }
+    ensures still { CountNoUses store.new }
     ensures err_mounts { OnErr result (mounts.new ≡ mounts.old) }
     ensures err_groups { OnErr result (groups.new ≡ groups.old) }
     ensures err_store { OnErr result (store.new ≡ store.old) }

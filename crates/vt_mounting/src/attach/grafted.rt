@@ -3,7 +3,7 @@
 ghost use Rattle.std.specs.Prelude.{◌≡◌, OnErr, OnOk};
 ghost use Rattle.vt_propagate.specs.Copying.{HasRoomFor};
 ghost use Rattle.vt_mounting.specs.Attach.Grafted.{IsGrafted, MayGraft};
-ghost use Rattle.vt_mounting.specs.Detach.Stored.{OverlaysStay, kept};
+ghost use Rattle.vt_mounting.specs.Detach.Stored.{CountNoUses, OverlaysStay, kept};
 
 use crate::attach::planned::{Planned, attach_planned};
 use std::alloc::{AllocError, Global};
@@ -26,6 +26,7 @@ pub fn attach_graft(
 ) -> Result<(), AllocError>
     requires room { HasRoomFor graft.now counts }
     requires may { MayGraft mounts.old groups.old graft.now counts }
+    requires none { CountNoUses store.old }
     ensures ok { OnOk result (IsGrafted graft.now counts (kept mounts.old store.old) groups.old
         (kept mounts.new store.new) groups.new) }
     ensures overlays { OverlaysStay store.old.overlays store.new.overlays }

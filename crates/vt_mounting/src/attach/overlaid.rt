@@ -1,6 +1,7 @@
 //! A new overlay, with copies of a mount of it: mount(2), and overlayfs.
 ghost use Rattle.std.specs.List.{list_all};
-ghost use Rattle.std.specs.Prelude.{List, ◌≡◌, ◌++◌, ◌∷◌, [], OnErr, OnOk, map, nat_lt, true};
+ghost use Rattle.std.specs.Prelude.{List, ◌≡◌, ◌++◌, ◌∷◌, [], OnErr, OnOk, false, map, nat_lt, true};
+ghost use Rattle.vt_fs.specs.FilesystemsValue.{shown};
 ghost use Rattle.vt_group.specs.Together.{GrowsTo, new_group, typed};
 ghost use Rattle.vt_location.specs.declared.locations.Location.{Location};
 ghost use Rattle.vt_location.specs.Locations.{location_of};
@@ -12,7 +13,7 @@ ghost use Rattle.vt_mounting.specs.Attach.Grafted.{IsGrafted, MayGraft};
 ghost use Rattle.vt_mounting.specs.Attach.Planned.{is_small, points_left, points_taken, with_planned};
 ghost use Rattle.vt_mounting.specs.Attach.Room.{has_small_nodes};
 ghost use Rattle.vt_mounting.specs.Attach.Overlaid.{IsWithOverlay, new_entry};
-ghost use Rattle.vt_mounting.specs.Detach.Stored.{OverlaysStay, kept};
+ghost use Rattle.vt_mounting.specs.Detach.Stored.{CountNoUses, OverlaysStay, has_count, kept};
 
 use crate::attach::attaching::hold_overlays;
 use crate::attach::planned::{Planned, enter_planned, exchange_uses, plan_has_room};
@@ -37,7 +38,7 @@ pub struct NewOverlay {
 
 /// Makes an overlay, and attaches copies of a tree at all parts, as `attach_graft` does: all or nothing. The tree is a
 /// mount of the overlay. Each layer pins its directory, and counts as a mount of its filesystem. The overlay's number must
-/// be above those of all other overlays.
+/// be above those of all other overlays, and no plain filesystem has it.
 ///
 /// It fails too where an inode or a filesystem would have more than 2^64 - 1 uses. Nothing has changed then.
 pub fn attach_overlay(
@@ -50,6 +51,8 @@ pub fn attach_overlay(
     requires room { HasRoomFor graft.now new.counts }
     requires may { MayGraft mounts.old groups.old graft.now new.counts }
     requires above { list_all (λ entry. nat_lt entry.count new.filesystem.count) store.old.overlays ≡ true }
+    requires apart { has_count new.filesystem.count (shown store.old.plain) ≡ false }
+    requires none { CountNoUses store.old }
     ensures ok { OnOk result ((held : StoreValue) × IsWithOverlay (new_entry new) store.old held
         × IsGrafted graft.now new.counts (kept mounts.old held) groups.old (kept mounts.new store.new) groups.new) }
     ensures overlays { OnOk result
@@ -78,6 +81,8 @@ fn attach_with_overlay(
 ) -> Result<(), AllocError>
     requires ascending { ComeAfter (map mount_of plan.now.copies.now) (mounts_in mounts.old) }
     requires above { list_all (λ entry. nat_lt entry.count new.filesystem.count) store.old.overlays ≡ true }
+    requires apart { has_count new.filesystem.count (shown store.old.plain) ≡ false }
+    requires none { CountNoUses store.old }
     ensures ok { OnOk result ((held : StoreValue) × IsWithOverlay (new_entry new) store.old held
         × (left : List Location)
         × (map location_of left ≡ points_left plan.now.points.now mounts.old)
@@ -107,7 +112,7 @@ fn attach_with_overlay(
     match enter_planned(mounts, groups, plan, plan.copies) {
         Ok(moved) => {
             store.hold_layers_of(filesystem);
-            exchange_uses(store.plain_mut(), &moved, plan.copies);
+            exchange_uses(store, &moved, plan.copies);
             hold_overlays(store, plan.copies);
             Ok(())
         }

@@ -1,6 +1,6 @@
 //! Planned attachments: mounts get other mount points while others come, with their groups.
 ghost use Rattle.std.specs.List.{list_all};
-ghost use Rattle.std.specs.Prelude.{List, ◌≡◌, ◌++◌, ◌+◌, ◌-◌, ◌*◌, ◌≤◌, IfOk, OnErr, OnOk, length, map, option_to_list, Some, true};
+ghost use Rattle.std.specs.Prelude.{List, ◌≡◌, ◌++◌, ◌+◌, ◌-◌, ◌*◌, ◌≤◌, IfOk, OnErr, OnOk, length, map, Some, true};
 ghost use Rattle.vt_fs.specs.FilesystemsValue.{shown};
 ghost use Rattle.vt_group.specs.Together.{GrowsTo, new_group, typed};
 ghost use Rattle.vt_location.specs.declared.locations.Location.{Location};
@@ -12,14 +12,14 @@ ghost use Rattle.vt_location.specs.Numbers.{most_counted};
 ghost use Rattle.vt_mounting.specs.Attach.Planned.{AreMoves, is_small, left_of, pinned_by, points_left, points_taken};
 ghost use Rattle.vt_mounting.specs.Attach.Planned.{taken_of, unpinned_by, with_planned, with_points};
 ghost use Rattle.vt_mounting.specs.Attach.Room.{has_room, has_small_nodes, merged_has_room, point_has_room};
-ghost use Rattle.vt_mounting.specs.Detach.Stored.{OverlaysStay, kept, merged_of};
+ghost use Rattle.vt_mounting.specs.Detach.Stored.{CountNoUses, OverlaysStay, kept, merged_of};
 ghost use Rattle.vt_mounting.specs.Detach.Uses.{shown_by, unused_entry};
 
 use crate::attach::attaching::{have_room, hold_overlays, overlays_have_room, show_all};
+use crate::detach::detaching::unpin_point;
 use std::alloc::AllocError;
-use vt_fs::Filesystems;
 use vt_group::{Groups, NewGroup};
-use vt_location::{Location, Mount};
+use vt_location::Mount;
 use vt_mount::{Mounts, Moved, NewPoint};
 use vt_store::Store;
 
@@ -45,7 +45,8 @@ pub fn attach_planned(
     store: &mut Store,
     plan: &Planned,
 ) -> Result<(), AllocError>
-    requires { ComeAfter (map mount_of plan.now.copies.now) (mounts_in mounts.old) }
+    requires ascending { ComeAfter (map mount_of plan.now.copies.now) (mounts_in mounts.old) }
+    requires none { CountNoUses store.old }
     ensures ok { OnOk result ((left : List Location)
         × (map location_of left ≡ points_left plan.now.points.now mounts.old)
         × (list_all is_small left ≡ true)
@@ -56,6 +57,7 @@ pub fn attach_planned(
     ensures slots { OnOk result (list_all has_small_nodes plan.now.copies.now ≡ true) }
     ensures places { OnOk result (list_all is_small (points_taken plan.now.points.now mounts.old) ≡ true) }
     ensures overlays { OverlaysStay store.old.overlays store.new.overlays }
+    ensures still { CountNoUses store.new }
     ensures err_mounts { OnErr result (mounts.new ≡ mounts.old) }
     ensures err_groups { OnErr result (groups.new ≡ groups.old) }
     ensures err_store { OnErr result (store.new ≡ store.old) }
@@ -72,7 +74,8 @@ pub(crate) fn attach_grouped(
     plan: &Planned,
     types: &[Mount],
 ) -> Result<(), AllocError>
-    requires { ComeAfter (map mount_of plan.now.copies.now) (mounts_in mounts.old) }
+    requires ascending { ComeAfter (map mount_of plan.now.copies.now) (mounts_in mounts.old) }
+    requires none { CountNoUses store.old }
     ensures ok { OnOk result ((left : List Location)
         × (map location_of left ≡ points_left plan.now.points.now mounts.old)
         × (list_all is_small left ≡ true)
@@ -83,6 +86,7 @@ pub(crate) fn attach_grouped(
     ensures slots { OnOk result (list_all has_small_nodes plan.now.copies.now ≡ true) }
     ensures places { OnOk result (list_all is_small (points_taken plan.now.points.now mounts.old) ≡ true) }
     ensures overlays { OverlaysStay store.old.overlays store.new.overlays }
+    ensures still { CountNoUses store.new }
     ensures err_mounts { OnErr result (mounts.new ≡ mounts.old) }
     ensures err_groups { OnErr result (groups.new ≡ groups.old) }
     ensures err_store { OnErr result (store.new ≡ store.old) }
@@ -91,30 +95,34 @@ pub(crate) fn attach_grouped(
         return Err(AllocError);
     }
     let moved = enter_planned(mounts, groups, plan, types)?;
-    exchange_uses(store.plain_mut(), &moved, plan.copies);
+    exchange_uses(store, &moved, plan.copies);
     hold_overlays(store, plan.copies);
     Ok(())
 }
 
 // The inodes at new mount points are used once more, those that mounts come with too, and those at the mount points that
 // were left once less.
-pub(crate) fn exchange_uses(filesystems: &mut Filesystems, moved: &[Moved], copies: &[Mount])
-    requires points { list_all (λ point. point_has_room (most_counted - length moved.now) (shown filesystems.old)
+pub(crate) fn exchange_uses(store: &mut Store, moved: &[Moved], copies: &[Mount])
+    requires none { CountNoUses store.old }
+    requires points { list_all (λ point. point_has_room (most_counted - length moved.now) (shown store.old.plain)
         (Some point)) (taken_of moved.now) ≡ true }
     requires copies { list_all (has_room (most_counted - 2 * length copies.now)
-        (folded pinned_by (shown filesystems.old) (taken_of moved.now))) copies.now ≡ true }
-    ensures { shown filesystems.new ≡ folded unpinned_by
-        (folded shown_by (folded pinned_by (shown filesystems.old) (taken_of moved.now)) copies.now)
+        (folded pinned_by (shown store.old.plain) (taken_of moved.now))) copies.now ≡ true }
+    ensures uses { shown store.new.plain ≡ folded unpinned_by
+        (folded shown_by (folded pinned_by (shown store.old.plain) (taken_of moved.now)) copies.now)
         (left_of moved.now) }
+    ensures overlays { store.new.overlays ≡ store.old.overlays }
+    ensures still { CountNoUses store.new }
 {
-    pin_all(filesystems, moved);
-    show_all(filesystems, copies);
-    unpin_all(filesystems, moved);
+    pin_all(store, moved);
+    show_all(store, copies);
+    unpin_all(store, moved);
 }
 
 // Whether all uses that come can be counted: two of an inode for each copy, and one for each mount that moves, at the
 // most, and so many beside.
 pub(crate) fn plan_has_room(store: &Store, plan: &Planned, beside: u64) -> bool
+    requires { CountNoUses store.now }
     ensures fits { result ≡ true
         → 2 * length plan.now.copies.now + length plan.now.points.now + beside ≤ most_counted }
     ensures copies { result ≡ true → list_all
@@ -136,18 +144,19 @@ pub(crate) fn plan_has_room(store: &Store, plan: &Planned, beside: u64) -> bool
         return false;
     }
     let left = most - moves - beside;
-    have_room(store.plain(), plan.copies, left)
+    have_room(store, plan.copies, left)
         && overlays_have_room(store, plan.copies, left)
-        && places_have_room(store.plain(), plan.points, left)
+        && places_have_room(store, plan.points, left)
 }
 
 // Whether the inodes at new mount points have no more uses than so many.
-fn places_have_room(filesystems: &Filesystems, points: &[NewPoint], most: u64) -> bool
+fn places_have_room(store: &Store, points: &[NewPoint], most: u64) -> bool
+    requires { CountNoUses store.now }
     ensures { result ≡ true → list_all
-        (λ point. point_has_room most (shown filesystems.now) (Some point.place)) points.now ≡ true }
+        (λ point. point_has_room most (shown store.now.plain) (Some point.place)) points.now ≡ true }
 {
     for point in points {
-        if filesystems.uses(point.place.node) > most {
+        if store.uses(point.place.node) > most {
             return false;
         }
     }
@@ -176,32 +185,29 @@ pub(crate) fn enter_planned(
     })
 }
 
-// The inodes at the mount points that mounts got are used once more.
-fn pin_all(filesystems: &mut Filesystems, moved: &[Moved])
-    requires { list_all (λ point. point_has_room (most_counted - length moved.now) (shown filesystems.old)
+// The nodes at the mount points that mounts got are used once more.
+fn pin_all(store: &mut Store, moved: &[Moved])
+    requires none { CountNoUses store.old }
+    requires room { list_all (λ point. point_has_room (most_counted - length moved.now) (shown store.old.plain)
         (Some point)) (taken_of moved.now) ≡ true }
-    ensures { shown filesystems.new ≡ folded pinned_by (shown filesystems.old) (taken_of moved.now) }
+    ensures uses { shown store.new.plain ≡ folded pinned_by (shown store.old.plain) (taken_of moved.now) }
+    ensures overlays { store.new.overlays ≡ store.old.overlays }
+    ensures still { CountNoUses store.new }
 {
     for one in moved {
         // It does not fail: there is room.
-        let _ = filesystems.pin(one.to.node);
+        let _ = store.pin(one.to.node);
     }
 }
 
-// The inodes at the mount points that mounts left are used once less.
-fn unpin_all(filesystems: &mut Filesystems, moved: &[Moved])
-    ensures { shown filesystems.new ≡ folded unpinned_by (shown filesystems.old) (left_of moved.now) }
+// The nodes at the mount points that mounts left are used once less.
+fn unpin_all(store: &mut Store, moved: &[Moved])
+    requires { CountNoUses store.old }
+    ensures uses { shown store.new.plain ≡ folded unpinned_by (shown store.old.plain) (left_of moved.now) }
+    ensures overlays { store.new.overlays ≡ store.old.overlays }
+    ensures still { CountNoUses store.new }
 {
     for one in moved {
-        unpin_point(filesystems, one.from);
-    }
-}
-
-// The inode at a mount point is used once less.
-fn unpin_point(filesystems: &mut Filesystems, point: Option<Location>)
-    ensures { shown filesystems.new ≡ folded unpinned_by (shown filesystems.old) (option_to_list point) }
-{
-    if let Some(point) = point {
-        filesystems.unpin(point.node);
+        unpin_point(store, one.from);
     }
 }

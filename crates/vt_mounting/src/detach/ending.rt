@@ -2,7 +2,7 @@
 ghost use Rattle.std.specs.Prelude.{◌≡◌};
 ghost use Rattle.vt_location.specs.Numbers.{namespace_number};
 ghost use Rattle.vt_mounting.specs.Detach.NamespacesLeft.{MountsAreLeft, NamespaceIsLeft, namespace_entry, with_one_task_less};
-ghost use Rattle.vt_mounting.specs.Detach.Stored.{OverlaysLeft, kept};
+ghost use Rattle.vt_mounting.specs.Detach.Stored.{CountNoUses, OverlaysLeft, kept};
 ghost use Rattle.vt_world.specs.WorldValue.{entries_of};
 
 use crate::detach::detaching::detach;
@@ -23,6 +23,7 @@ pub fn leave_namespace(
     namespaces: &mut IndexMap<NamespaceId, Namespace>,
     id: NamespaceId,
 )
+    requires { CountNoUses store.old }
     ensures namespaces { entries_of namespaces.new.entries
         ≡ with_one_task_less id.count (entries_of namespaces.old.entries) }
     ensures mounts { MountsAreLeft (namespace_number id) (namespace_entry id.count (entries_of namespaces.old.entries))
@@ -42,6 +43,7 @@ pub fn leave_namespace(
 
 // The mounts of a namespace are detached and leave their groups, the last one first.
 fn end_namespace(mounts: &mut Mounts, groups: &mut Groups, store: &mut Store, id: NamespaceId)
+    requires { CountNoUses store.old }
     ensures left { NamespaceIsLeft (namespace_number id) (kept mounts.old store.old) groups.old
         (kept mounts.new store.new) groups.new }
     ensures overlays { OverlaysLeft store.old.overlays store.new.overlays }

@@ -1,19 +1,19 @@
 -- A tree is changed first, and then mounts are detached that stand on what is removed: rmdir(2), rename(2).
 use Rattle.std.proofs.Common.{◌≡◌, refl, sym, ap, subst, ◌∙◌, ℕ, nat_eq, eq-eqb, Bool, true, false, cond, not, ◌&&◌, List, [], ◌∷◌, ◌++◌, map, filter, flat_map, Option, None, Some, option_map, is_some, filter_map, arith}
 use Rattle.vt_spec.proofs.Common.{Change, Filesystem, Fresh, IsTree, IsWorld, ListsNumbers, Location, Mount, Overlay, OverlayInvariants, Permit, SameWorlds, TaskName, ToChange, TreeInvariants, World, all_locations, apply, filesystem_at, filesystem_changed, filesystem_numbered, has_too_many, inheriting, is_among, is_overlay, is_within_limits, layers_in, list_all, list_any, located_in, lost_a_group, mount_at, named_in, objects_of_overlay, overlay_or, regrouped, regrouped_by, replaced_if_numbered, root_of, settled, shown-mapped, with_change, with_files, with_filesystem, common_steps}
+use Rattle.vt_spec.proofs.Worlds.{filesystems-regrouped}
 use Rattle.vt_laws_mounts.specs.Counts.Changing.{filesystem_of}
-use Rattle.vt_ns.proofs.Common.{Among, ChangesFiles, CountsWhatIsInIt, Filesystems, Grouping, Has, HasChildrenOf, Inode, IsDone, IsHeld, IsKeptBut, IsUnderWay, LeaveInTurn, LeaveTogether, Merged, MountEntry, NamesWhatIsThere, Permits, WorldValue, all_from_among, among-append_right, among-map, among_from_all, detached_world, filesystem_seen, found_plain_one, given_permits_are_under_way_without_upper, has_ordered, in_use_of, is_among_numbers, is_counted_before, keeps_itself, kept_of, kept_with, permit_named, remade_with, same_files_keep, sameness_is_an_equivalence, supply_of, taken_regroups, with_filesystems, world_of}
+use Rattle.vt_ns.proofs.Common.{Among, ChangesFiles, CountsWhatIsInIt, Filesystems, Grouping, Has, HasChildrenOf, Inode, IsDone, IsHeld, IsKeptBut, IsUnderWay, LeaveInTurn, LeaveTogether, Merged, MountEntry, NamesWhatIsThere, Permits, WorldValue, all_from_among, among-append_right, among-map, among_from_all, detached_world, filesystem_seen, found_plain_one, given_permits_are_under_way_anywhere, given_permits_leave_every_world, given_to_task, has_ordered, in_use_of, is_among_numbers, is_counted_before, kept_of, kept_with, permit_named, remade_with, sameness_is_an_equivalence, supply_of, taken_regroups, with_filesystems, world_of}
 use Rattle.vt_group.specs.Together.{TakesAway}
 use Rattle.vt_laws_worlds.proofs.permits.named.PermitsKeepTo.{permits_keep_to_numbers}
 use Rattle.vt_laws_worlds.proofs.one_text.same.SameNumbers.{any_same_worlds_keep_to_numbers}
-use Rattle.vt_laws_worlds.proofs.one_text.same.SameWhole.{any_same_worlds_are_worlds}
+use Rattle.vt_laws_worlds.proofs.one_text.same.SameWhole.{any_same_worlds_are_under_way, any_same_worlds_are_worlds}
 use Rattle.vt_laws_worlds.proofs.overlay_permits.kept.KeptOverlays.{overlays_in}
 use Rattle.vt_laws_worlds.proofs.overlay_permits.worlds.LowersGoOn.{Layers, changed_layers, layers, layers_at}
 use Rattle.vt_laws_worlds.specs.OverlaysRead.Writers.{WritersHaveLayers}
 use Rattle.vt_laws_worlds.proofs.overlays_read.Swept.{same_worlds_have_layers_alike, sweeps_keep_writers, writers_alike}
 use Rattle.vt_mounting.proofs.detach.Writers.{left_writers}
 use Rattle.vt_laws_worlds.proofs.overlay_permits.worlds.SweptWorlds.{settling_leaves_every_world}
-use Rattle.vt_laws_worlds.proofs.overlays_stay.left.Given.{given_permits_give_no_upper}
 use Rattle.vt_laws_mounts.proofs.letting_go.Lists.{among-filter, among-filter_map, is_among_left, is_among_right, map_same, or_right}
 use Rattle.vt_laws_mounts.proofs.letting_go.leaving.NamesKept.{changes_keep_names}
 use Rattle.vt_laws_mounts.proofs.letting_go.sweeps.OfWorlds.{worlds_are_settled, worlds_have_trees}
@@ -24,7 +24,7 @@ use Rattle.vt_laws_mounts.specs.LettingGo.Overlays.{let_go_all_inodes, let_go_in
 use Rattle.vt_laws_mounts.specs.LettingGo.TreeChanges.{ChangesTree}
 use Rattle.vt_laws_trees.proofs.runs.answered.AlikeMounts.{regrouped_alike}
 use Rattle.vt_laws_trees.proofs.runs.answered.AlikeSettled.{settled_alike}
-use Rattle.vt_laws_trees.proofs.runs.answered.AlikeWorlds.{alike_from_same, same_from_alike}
+use Rattle.vt_laws_trees.proofs.runs.answered.AlikeWorlds.{Alike, alike_from_same, same_from_alike}
 use Rattle.vt_laws_worlds.specs.Worlds.Permits.{IsFitPermit}
 use Rattle.vt_laws_worlds.proofs.kept.MountsKept.{all_mounts_kept}
 use Rattle.vt_laws_worlds.proofs.kept.NamespacesKept.{all_namespaces_kept}
@@ -32,7 +32,7 @@ use Rattle.vt_laws_worlds.proofs.worlds.PermitsNamed.{all_permits_keep_counting_
 use Rattle.vt_laws_worlds.proofs.worlds.PermitsPlaced.{directories_stay, locations_stay, open_files_stay}
 use Rattle.vt_laws_worlds.proofs.worlds.PermitsShow.{all_permits_keep_mounts_showing}
 use Rattle.vt_mounting.proofs.detach.ChangedFiles.{change_is_held, change_is_swept}
-use Rattle.vt_mounting.proofs.detach.Bridging.{swept_is_same}
+use Rattle.vt_mounting.proofs.detach.Bridging.{MayBeSwept, swept_is_same}
 use Rattle.vt_mounting.proofs.detach.DetachingBegins.{detaching_begins}
 use Rattle.vt_mounting.proofs.detach.DetachingEnds.{detached_counted, detached_is_private, detached_swept, held_is_kept}
 use Rattle.vt_mounting.proofs.detach.Finishing.{swept_held}
@@ -146,8 +146,8 @@ module _ (value : WorldValue) (held : IsHeld value) (location : Location ℕ) (c
 
     last_under_way : IsReady (regrouped nat_eq (detached_world gone (changed_first fresh)))
     last_under_way = subst IsReady (leaves fresh)
-        (let ready = given_permits_are_under_way_without_upper world fresh permits.task permit held.in_world
-        held.overlays.read_only permits.given in (ready.0, ready.1))
+        (given_permits_are_under_way_anywhere world fresh permits.task permit held.in_world
+        (given_to_task fresh world permits.task permit permits.given))
 
     -- groups that end leave the trees as they are
     trees_under_way : (b : Bool) → IsReady (regrouped_by nat_eq b (detached_world gone (changed_first fresh)))
@@ -350,22 +350,32 @@ module _ (value : WorldValue) (held : IsHeld value) (location : Location ℕ) (c
       same_first = subst (λ w. SameWorlds w (world_of value_changed)) still
           (change_is_swept value held location change filesystems made fresh)
 
-      same_left : SameWorlds (settled nat_eq (regrouped nat_eq last)) (settled nat_eq (regrouped nat_eq after))
-      same_left =
+      last_alike : Alike (regrouped nat_eq last) (regrouped nat_eq after)
+      last_alike =
           let alike = alike_from_same (changed_first fresh) (world_of value_changed) same_first in
-          same_from_alike (settled nat_eq (regrouped nat_eq last)) (settled nat_eq (regrouped nat_eq after))
-          (settled_alike (regrouped nat_eq last) (regrouped nat_eq after) (regrouped_alike last after (record {
+          regrouped_alike last after (record {
             mounts = ap (map (detached_in gone)) alike.mounts;
             master = alike.master;
             filesystems = alike.filesystems;
             namespaces = alike.namespaces;
             tasks = alike.tasks;
-          })))
+          })
+
+      same_left : SameWorlds (settled nat_eq (regrouped nat_eq last)) (settled nat_eq (regrouped nat_eq after))
+      same_left =
+          same_from_alike (settled nat_eq (regrouped nat_eq last)) (settled nat_eq (regrouped nat_eq after))
+          (settled_alike (regrouped nat_eq last) (regrouped nat_eq after) last_alike)
+
+      after_under_way : IsReady (regrouped nat_eq after)
+      after_under_way =
+          let same = any_same_worlds_are_under_way (regrouped nat_eq last) (regrouped nat_eq after)
+          (same_from_alike (regrouped nat_eq last) (regrouped nat_eq after) last_alike) last_under_way.0
+          last_under_way.1 in (same.0, same.1)
 
       left_world : IsWorld nat_eq (settled nat_eq (regrouped nat_eq last))
       left_world = subst (λ w. IsWorld nat_eq (settled nat_eq w)) (leaves fresh)
-          (given_permits_give_no_upper world fresh permits.task permit held.in_world held.overlays.read_only
-          permits.given).0
+          (given_permits_leave_every_world world fresh permits.task permit held.in_world
+          (given_to_task fresh world permits.task permit permits.given))
 
       -- They leave their groups at once, and all mounts get the types that the groups then tell.
       module _ (groups : Grouping) (follows : TakesAway value.groups groups gone) where
@@ -390,6 +400,15 @@ module _ (value : WorldValue) (held : IsHeld value) (location : Location ℕ) (c
             (subst (λ w. WritersHaveLayers (settled nat_eq w)) (leaves fresh)
             (left_writers value held permits.task permit permits.given))
 
+        may_be_swept : MayBeSwept typed
+        may_be_swept = record {
+          policy = regrouped nat_eq after;
+          under = after_under_way.0;
+          overlays = after_under_way.1;
+          left = settled_typed after groups has_after;
+          files = filesystems-regrouped after;
+        }
+
         has_typed : Has (settled nat_eq typed) groups
         has_typed = settled_typed_has after groups has_after
             (detached_is_private (world_of value_changed) gone changed_first_is_held.in_world.mounts.nowhere)
@@ -409,19 +428,17 @@ module _ (value : WorldValue) (held : IsHeld value) (location : Location ℕ) (c
             let kept_last = subst (λ one. IsKeptBut value_changed [] [] [] lost one
             (kept_with mounts others overlays)) detaching.ends detaching.is in
             let swept = swept_typed groups untyped value_changed after [] lost
-            (detached_swept value_changed after [] lost untyped overlays kept_last refl refl
-            (same_files_keep value_changed (world_of value_changed) after refl
-            (keeps_itself value_changed held_first.overlays)) refl refl) in
+            (detached_swept value_changed after [] lost untyped overlays kept_last refl refl refl refl refl) in
             let same = sameness_is_an_equivalence.onward (settled nat_eq (regrouped nat_eq last)) (settled nat_eq typed)
             (world_of new) same_typed
-            (swept_is_same value_changed held_first typed [] lost new swept has_typed typed_is_world) in
+            (swept_is_same value_changed held_first typed may_be_swept [] lost new swept has_typed typed_is_world) in
             let counts = counts_typed groups untyped
             (detached_counted value_changed after [] lost untyped overlays kept_last refl refl
             (all_from_among (CountsWhatIsInIt (world_of untyped)) value.namespaces (λ entry m.
             let was = among_from_all (CountsWhatIsInIt
             (world_of value)) value.namespaces held.namespaces entry m in record { tasks = was.tasks }))) in
             record {
-              held = swept_held value_changed held_first typed typed_is_world [] lost new swept has_typed counts
+              held = swept_held value_changed held_first typed may_be_swept typed_is_world [] lost new swept has_typed counts
                   (any_same_worlds_keep_to_numbers (is_counted_before value.next)
                   (settled nat_eq (apply nat_eq (λ k. 0) world permits.task permit).world) (world_of new)
                   (subst (λ w. SameWorlds (settled nat_eq w) (world_of new)) (sym (leaves (λ k. 0))) same)

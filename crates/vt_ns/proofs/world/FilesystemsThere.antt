@@ -1,8 +1,8 @@
 -- Whether a world has a filesystem or a namespace of a number.
-use Rattle.std.proofs.Common.{arith, ◌≡◌, refl, sym, ap, ◌∙◌, ℕ, nat_eq, nat_lt, Bool, true, false, cond, ◌||◌, List, [], ◌∷◌, map, find, is_some, option_copied, option_map, Bor, Option, Some, None}
+use Rattle.std.proofs.Common.{arith, ◌≡◌, refl, sym, ap, ◌∙◌, ℕ, nat_eq, nat_lt, Bool, true, false, ◌||◌, List, [], ◌∷◌, map, find, is_some, option_copied, option_map, Bor, Option, Some, None}
 use Rattle.vt_spec.proofs.Common.{Filesystem, Namespace, common_steps, list_any}
 use Rattle.std.specs.Map.{lookup}
-use Rattle.vt_ns.proofs.Common.{FilesystemEntry, Filesystems, StoreValue, counted, counted_test, entries_of, entry_of, filesystem_seen, namespace_of}
+use Rattle.vt_ns.proofs.Common.{Filesystems, StoreValue, counted, counted_test, entries_of, entry_of, namespace_of}
 use Rattle.vt_fs.specs.FilesystemsValue.{filesystems_seen}
 use Rattle.vt_laws_trees.specs.Overlays.InOrder.{put_in}
 use Rattle.vt_laws_worlds.specs.OverlaysStay.Woven.{woven}
@@ -11,7 +11,7 @@ use Rattle.vt_store.proofs.KeptObjects.{layered_entry}
 use Rattle.vt_store.specs.OverlaysValue.{OverlayEntry}
 use Rattle.vt_store.specs.StoreValue.{entry_in, layered_in}
 use Rattle.vt_world.specs.StoredWorld.{overlay_of_store, overlays_of_store}
-use Rattle.vt_world.specs.WorldValue.{overlay_seen, overlays_seen}
+use Rattle.vt_world.specs.WorldValue.{overlays_seen}
 use Rattle.vt_world.specs.declared.namespaces.Namespace.{Namespace as Kept}
 
 abbrev there : ℕ → List (Filesystem ℕ) → Bool

@@ -1,7 +1,7 @@
 -- What the event that moves mounts finds: its place, and the tree that moves.
 use Rattle.std.proofs.Common.{◌≡◌, refl, sym, ap, subst, ◌∙◌, ℕ, nat_eq, eqb-true, Bool, true, false, cond, List, find, Option, Some, is_some, option_map, unwrap_or}
 use Rattle.vt_spec.proofs.Common.{Mount, TaskName, ToMove, is_located_well, is_shared, mount_at, mount_numbered, mount_tree, no_mount}
-use Rattle.vt_ns.proofs.Common.{Among, AreOf, Filesystems, IsDone, IsHeld, MountEntry, Permits, StoreValue, WorldValue, are_ascending, changed, counted, found_is_there, inode_of, is_small_node, location_of, mount_of, mounts_in, number_of, permit_fits, pinned_in, remade, shown, with_store, world_of}
+use Rattle.vt_ns.proofs.Common.{Among, AreOf, IsDone, IsHeld, MountEntry, Permits, StoreValue, WorldValue, are_ascending, changed, counted, found_is_there, inode_of, is_small_node, location_of, mount_of, mounts_in, number_of, permit_fits, pinned_in, remade, shown, with_store, world_of}
 use Rattle.vt_laws_mounts.proofs.letting_go.mounting.AttachedSwept.{of_tree}
 use Rattle.vt_laws_mounts.proofs.letting_go.Lists.{map_same}
 use Rattle.vt_location.specs.declared.locations.Location.{Location}
@@ -74,19 +74,20 @@ module _ (value : WorldValue) (number : ℕ)
 -- A mount that moves alone: its new mount point has one use more and its old one has one less, and overlays stay.
 pub moved_in_store : (base : WorldValue) (store : StoreValue) → IsHeld (with_store store base)
     → (name : TaskName) (number : ℕ) (place : Location) (left : Option Location) (mounts : List MountEntry)
-    (plain : Filesystems) → Permits (with_store store base) name (ToMove number (location_of place))
+    (new : StoreValue) → new.overlays ≡ store.overlays
+    → Permits (with_store store base) name (ToMove number (location_of place))
     → is_shared (mount_at nat_eq (world_of (with_store store base)) (location_of place)).propagation ≡ false
     → is_small_node place.node ≡ true → ((point : Location) → left ≡ Some point → is_small_node point.node ≡ true)
     → option_map location_of left ≡ (mount_numbered nat_eq (world_of (with_store store base)) number).mount_point
-    → shown plain ≡ unpinned_at left (pinned_in (inode_of place.node) (shown store.plain))
+    → shown new.plain ≡ unpinned_at left (pinned_in (inode_of place.node) (shown store.plain))
     → mounts ≡ changed number (λ entry. record entry {
       mount = record entry.mount { mount_point = Some (location_of place) };
     }) base.mounts → IsDone (with_store store base) name (ToMove number (location_of place))
-    (with_store (record store { plain = plain }) (record base { mounts = mounts }))
-moved_in_store base store held name number place left mounts plain permits alone small small_left left_is shown_is
-    moved = same_in_store base (record base { mounts = mounts }) store (record store { plain = plain }) held refl name
+    (with_store new (record base { mounts = mounts }))
+moved_in_store base store held name number place left mounts new same permits alone small small_left left_is shown_is
+    moved = same_in_store base (record base { mounts = mounts }) store new held same name
     (ToMove number (location_of place)) permits
     (subst (λ entries. IsDone (with_store store base) name (ToMove number (location_of place))
-    (remade (with_store store base) entries plain base.tasks)) (sym moved)
-    (mount_is_moved (with_store store base) held name number place left plain permits alone small small_left left_is
+    (remade (with_store store base) entries new.plain base.tasks)) (sym moved)
+    (mount_is_moved (with_store store base) held name number place left new.plain permits alone small small_left left_is
     shown_is))

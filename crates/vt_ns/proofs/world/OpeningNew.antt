@@ -4,7 +4,7 @@ use Rattle.vt_spec.proofs.Common.{Change, Descriptor, Fits, Fresh, Inodes, IsNew
 use Rattle.vt_spec.specs.Inodes.{changed}
 use Rattle.vt_laws_mounts.proofs.counts.changing.Changes.{only_files_change_beside_overlays}
 use Rattle.vt_laws_mounts.proofs.counts.changing.KeptAll.{names_keep_all_beside_overlays}
-use Rattle.vt_ns.proofs.Common.{Among, ChangesFiles, ChangesInodes, Filesystems, Has, IsDone, IsHeld, IsLocated, IsSwept, IsUnderWay, Merged, MountEntry, Moves, Permits, Tasks, WorldValue, after, among-append_right, among-map, called, changed_called, counted, entry_of, given_changes_fit, given_permits_are_seen_to, given_permits_are_under_way_without_upper, here_number, inode_at, inodes_at, inodes_seen, is_counted_before, is_own_number, kept_of, kept_with, located_filesystem, located_inodes, location_of, next_inode, next_seen, node_seen, nodes_named, number_of, permit_fits, permit_named, remade, replaced, replaced_split, sameness_is_an_equivalence, seen_where_located, supply_of, with_filesystems, with_location, with_use, world_of, no_entry}
+use Rattle.vt_ns.proofs.Common.{Among, ChangesFiles, ChangesInodes, Filesystems, Has, IsDone, IsHeld, IsLocated, IsSwept, IsUnderWay, Merged, MountEntry, Moves, Permits, Tasks, WorldValue, after, among-append_right, among-map, called, changed_called, counted, entry_of, given_changes_fit, given_permits_are_seen_to, given_permits_are_under_way_anywhere, given_permits_leave_every_world, given_to_task, here_number, inode_at, inodes_at, inodes_seen, is_counted_before, is_own_number, kept_of, kept_with, located_filesystem, located_inodes, location_of, next_inode, next_seen, node_seen, nodes_named, number_of, permit_fits, permit_named, remade, replaced, replaced_split, sameness_is_an_equivalence, seen_where_located, supply_of, with_filesystems, with_location, with_use, world_of, no_entry}
 use Rattle.vt_fs.specs.FilesystemsValue.{entry_at}
 use Rattle.vt_laws_mounts.proofs.letting_go.Lists.{among-flat_map}
 use Rattle.vt_location.specs.declared.locations.Location.{Location}
@@ -20,7 +20,6 @@ use Rattle.vt_laws_worlds.proofs.overlays_read.Swept.{same_worlds_have_layers_al
 use Rattle.vt_mounting.proofs.detach.Writers.{left_writers}
 use Rattle.vt_ns.proofs.world.ChangedWithMounts.{change_keeps_writers}
 use Rattle.vt_laws_worlds.proofs.overlay_permits.worlds.SweptWorlds.{settling_leaves_every_world}
-use Rattle.vt_laws_worlds.proofs.overlays_stay.left.Given.{given_permits_give_no_upper}
 use Rattle.vt_tasks.specs.TasksValue.{MayOpenMore}
 use Rattle.vt_laws_worlds.specs.Worlds.Permits.{IsFitPermit}
 use Rattle.vt_laws_worlds.proofs.kept.MountsKept.{all_mounts_kept}
@@ -28,7 +27,7 @@ use Rattle.vt_laws_worlds.proofs.kept.NamespacesKept.{all_namespaces_kept}
 use Rattle.vt_laws_worlds.proofs.worlds.PermitsNamed.{all_permits_keep_counting_forks, all_permits_keep_names}
 use Rattle.vt_laws_worlds.proofs.worlds.PermitsPlaced.{directories_stay, locations_stay, open_files_stay}
 use Rattle.vt_laws_worlds.proofs.worlds.PermitsShow.{all_permits_keep_mounts_showing}
-use Rattle.vt_mounting.proofs.detach.Bridging.{swept_is_same}
+use Rattle.vt_mounting.proofs.detach.Bridging.{MayBeSwept, swept_is_same}
 use Rattle.vt_mounting.proofs.detach.Grouped.{left_has}
 use Rattle.vt_mounting.proofs.detach.ChangedFiles.{change_is_held, change_is_swept, inodes_after, is_change, partner}
 use Rattle.vt_ns.proofs.world.OpeningGranted.{IsNext, MayOpen, directory_seen, made_is_numbered, open_permitted, own_made}
@@ -114,9 +113,8 @@ module _ (value : WorldValue) (may : MayOpen value) (it : IsNext value may) wher
 
   under_way : IsReady (apply nat_eq handed (world_of value) permits.task permit).world
   under_way =
-      let ready = given_permits_are_under_way_without_upper (world_of value) handed permits.task permit held.in_world
-      held.overlays.read_only permits.given in
-      (ready.0, ready.1)
+      given_permits_are_under_way_anywhere (world_of value) handed permits.task permit held.in_world
+      (given_to_task handed (world_of value) permits.task permit permits.given)
 
   making_fits : IsFitPermit handed (world_of value) permits.task making
   making_fits = record { names = permit_is_fit.names.0; few_mounts = permit_is_fit.few_mounts }
@@ -270,10 +268,17 @@ module _ (value : WorldValue) (may : MayOpen value) (it : IsNext value may) wher
     opened_applied : (apply nat_eq handed (world_of value) permits.task permit).world ≡ opened_at (odds handed)
     opened_applied = grind (arith, common_steps, next_is)
 
-    under_next : IsUnderWay next
-    under_next =
+    ready_next : IsReady next
+    ready_next =
         let ready = subst IsReady opened_applied under_way in
-        (any_same_worlds_are_under_way (opened_at (odds handed)) next (opened_same (odds handed)) ready.0 ready.1).0
+        let same = any_same_worlds_are_under_way (opened_at (odds handed)) next (opened_same (odds handed)) ready.0
+        ready.1 in (same.0, same.1)
+
+    under_next : IsUnderWay next
+    under_next = ready_next.0
+
+    may_be_swept : MayBeSwept next
+    may_be_swept = record { policy = next; under = ready_next.0; overlays = ready_next.1; left = refl; files = refl }
 
     -- the new file is a location of the world
     file_located : is_located_well nat_eq (world_of mid) (location_of file) ≡ true
@@ -309,8 +314,8 @@ module _ (value : WorldValue) (may : MayOpen value) (it : IsNext value may) wher
     settled_is_world : IsWorld nat_eq (settled nat_eq next)
     settled_is_world = any_same_worlds_are_worlds (settled nat_eq (opened_at (odds handed))) (settled nat_eq next)
         (opened_alike (odds handed)) (subst (λ world. IsWorld nat_eq (settled nat_eq world)) opened_applied
-        (given_permits_give_no_upper (world_of value) handed permits.task permit held.in_world
-        held.overlays.read_only permits.given).0)
+        (given_permits_leave_every_world (world_of value) handed permits.task permit held.in_world
+        (given_to_task handed (world_of value) permits.task permit permits.given)))
 
     -- no descriptor is open for writing in an overlay
     writers_after : WritersHaveLayers (settled nat_eq next)
@@ -344,12 +349,12 @@ module _ (value : WorldValue) (may : MayOpen value) (it : IsNext value may) wher
       settled_same rest =
           sameness_is_an_equivalence.onward (settled nat_eq (opened_at rest)) (settled nat_eq next) (world_of new)
           (opened_alike rest)
-          (swept_is_same mid mid_held next (inode_at (world_of mid) (location_of file) ∷ []) [] new swept
+          (swept_is_same mid mid_held next may_be_swept (inode_at (world_of mid) (location_of file) ∷ []) [] new swept
           settled_has_groups settled_is_world)
 
       new_is_opened : IsDone value name permit new
       new_is_opened = record {
-        held = swept_held mid mid_held next settled_is_world (inode_at (world_of mid) (location_of file) ∷ []) [] new
+        held = swept_held mid mid_held next may_be_swept settled_is_world (inode_at (world_of mid) (location_of file) ∷ []) [] new
             swept settled_has_groups
             (remains_counted mid mid_held tasks (used_by descriptor ∷ []) [] moves mounts filesystems overlays moved stay
             (opened_tasks mid mid_held name permits.task permits.called descriptor file_located))

@@ -13,6 +13,7 @@ use Rattle.vt_mount.specs.Moving.{pivoted_entry}
 use Rattle.vt_mounting.specs.Detach.Uses.{released_use}
 use Rattle.vt_mounting.proofs.detach.Finishing.{CountsBeside, finished}
 use Rattle.vt_mounting.proofs.detach.Grouped.{changed_has}
+use Rattle.vt_mounting.proofs.detach.LowerLayers.{exchanges_of_lowers, of_lowers}
 use Rattle.vt_mounting.proofs.detach.MountsMoved.{mount_point_located}
 use Rattle.vt_mounting.proofs.detach.Moving.{exchanged_shown, filesystems_moved, folded_entry, gain, held_counts, hold_if, is_use_on, locations, lose, mounts_moved, moved_kept, released_counts, same_moved_mounts, writes_on_mount}
 use Rattle.vt_mounting.proofs.detach.Overlaid.{all_shown, is_plain_one, layers_kept, overlays_counted, plain_ones_are, still_mounted}
@@ -289,6 +290,7 @@ module _ (value : WorldValue) (whole : IsHeld value) (name : TaskName) (number :
 
       swept : IsSwept value next gets loses_uses new_value
       swept = record {
+        files = refl;
         midway = same_files_keep value before next refl (keeps_itself value whole.overlays);
         overlays = all_shown value (in_use_of next) (still_mounted value whole (in_use_of next) (λ number.
             ap (λ (world : World ℕ). is_mounted nat_eq world number) living_is ∙ same_mounted number));
@@ -302,9 +304,10 @@ module _ (value : WorldValue) (whole : IsHeld value) (name : TaskName) (number :
           count = ap (λ (one : Shown). one.count) from.2;
           there = gets_there from.0 from.1;
           inodes = ap (λ (one : Shown). one.inodes) from.2;
-          exchanges = subst (λ world. Exchanges gets loses_uses (counted from.0.count) before world) (sym living_is)
+          exchanges = subst (λ (world : World ℕ). Exchanges gets loses_uses (counted from.0.count) (of_lowers before)
+              (of_lowers world)) (sym living_is) (exchanges_of_lowers {world = before} {after = next} refl
               (uses_pivot before namespace root new place one_number root_there new_there another
-              (counted from.0.count));
+              (counted from.0.count)));
         };
         namespaces = refl;
         tasks = refl;

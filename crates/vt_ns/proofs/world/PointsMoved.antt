@@ -19,6 +19,7 @@ use Rattle.vt_mounting.proofs.detach.DetachingBegins.{pair_mapped}
 use Rattle.vt_mounting.proofs.detach.DetachingEnds.{held_is_kept, point_located}
 use Rattle.vt_mounting.proofs.detach.Keeping.{IsShownIn}
 use Rattle.vt_mounting.proofs.detach.LostUses.{entry_found_at}
+use Rattle.vt_mounting.proofs.detach.LowerLayers.{exchanges_of_lowers, of_lowers}
 use Rattle.vt_mounting.proofs.detach.MountsChanged.{times_map}
 use Rattle.vt_mounting.proofs.detach.Overlaid.{plain_ones_are}
 use Rattle.vt_mounting.proofs.detach.OverlaysGone.{layers_used, merged_in}
@@ -270,7 +271,8 @@ module _ (value : WorldValue) (whole : IsHeld value) (points : List Point) (may 
               ap (is_located_well nat_eq before) at.2 ∙ taken_located value whole points may.each at.0 at.1);
           inodes = ap (λ (x : Shown). x.inodes) from.2
               ∙ (λ i. exchanged (counted (entry.2 i).count) (taken_is i) (left_is i) (entry.2 i).inodes);
-          exchanges = subst (λ all. Exchanges gained all f before after) (no_more lost) (uses_exchanged f);
+          exchanges = subst (λ all. Exchanges gained all f (of_lowers before) (of_lowers after)) (no_more lost)
+              (exchanges_of_lowers {world = before} {after = after} refl (uses_exchanged f));
           mounts = ap (λ (x : Shown). x.mounts) from.2 ∙ none_added from.0.mounts ∙ ap (λ (x : Shown). x.mounts) entry.2
               ∙ (among_from_all (CountsItsMounts before) value.filesystems whole.filesystems entry.0 entry.1).mounts
               ∙ ap (λ n. n + layer_count before f) (sym (showing f))

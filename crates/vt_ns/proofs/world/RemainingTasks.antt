@@ -36,6 +36,7 @@ module _ (value : WorldValue) (whole : IsHeld value) (tasks : Tasks) (more less 
   swept_in =
       let swept = remains_swept value whole tasks more less moves mounts filesystems overlays is_kept stay in
       record {
+        files = swept.files;
         midway = swept.midway;
         overlays = swept.overlays;
         mounts = swept.mounts;

@@ -1,5 +1,5 @@
 -- What is looked at to tell whether tasks are sealed off is what the world shows.
-use Rattle.std.proofs.Common.{◌≡◌, ℕ, nat_eq, List, [], ◌∷◌, map, Option, None, Some, is_some, true, unwrap_or, refl, sym, ap, ◌∙◌}
+use Rattle.std.proofs.Common.{◌≡◌, ℕ, nat_eq, [], ◌∷◌, map, Option, None, Some, is_some, true, unwrap_or, refl, sym, ap, ◌∙◌}
 use Rattle.vt_spec.proofs.Common.{Filesystem, filesystem_numbered, found_among}
 use Rattle.vt_fs.proofs.Standing.{count_found}
 use Rattle.vt_fs.specs.FilesystemsValue.{files_seen}

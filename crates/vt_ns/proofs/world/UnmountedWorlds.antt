@@ -2,7 +2,7 @@
 use Rattle.std.proofs.Common.{◌≡◌, refl, sym, ap, subst, ◌∙◌, inl, ℕ, nat_eq, eqb-true, Bool, true, false, true≢false, cond, ◌&&◌, List, [], map, find, Option, Some, None, option_map, is_some, unwrap_or, option_to_list, arith}
 use Rattle.vt_spec.proofs.Common.{Location, Mount, Permit, Stands, Task, TaskName, World, and_parts, filesystem_numbered, has_its_root, is_among, is_directory_at, is_directory_node, is_going, is_located, is_located_well, is_nowhere_or_attached, is_there, list_all, lookup, map_twice, mount_at, mount_in, mount_numbered, no_mount, node_at, or_else, or_false_left, settled, shown-mapped, with_mounts, without_dead_groups, common_steps}
 use Rattle.std.proofs.lemmas.Option.{none-some}
-use Rattle.vt_ns.proofs.Common.{Among, CountsWhatIsInIt, Filesystems, Grouping, Has, HasChildrenOf, IsApplied, IsDone, IsHeld, IsKeptBut, IsUnderWay, LeaveInTurn, Merged, MountEntry, Point, WorldValue, all_from_among, among-from_map, among-map, among_from_all, among_from_list_all, counted, detached_world, directory_is_there, found_is_there, found_itself, found_mapped, given_permits_are_under_way_without_upper, in_use_of, is_among_numbers, is_small, keeps_itself, kept_of, kept_with, location_of, mounts_of_worlds_stand, moved_by, point_seen, points_left, points_taken, remade_with, same_files_keep, supply_of, with_planned, world_of}
+use Rattle.vt_ns.proofs.Common.{Among, CountsWhatIsInIt, Filesystems, Grouping, Has, HasChildrenOf, IsApplied, IsDone, IsHeld, IsKeptBut, IsUnderWay, LeaveInTurn, Merged, MountEntry, Point, WorldValue, all_from_among, among-from_map, among-map, among_from_all, among_from_list_all, counted, detached_world, directory_is_there, found_is_there, found_itself, found_mapped, given_permits_are_under_way_anywhere, given_to_task, in_use_of, is_among_numbers, is_small, kept_of, kept_with, location_of, mounts_of_worlds_stand, moved_by, point_seen, points_left, points_taken, remade_with, supply_of, with_planned, world_of}
 use Rattle.vt_group.specs.Laws.{typed_by}
 use Rattle.vt_laws_mounts.specs.LettingGo.Leaving.{stands_on_attached}
 use Rattle.vt_laws_mounts.proofs.letting_go.leaving.PlacesLeft.{number-mount_in}
@@ -55,8 +55,8 @@ module _ (value : WorldValue) (whole : IsHeld value) (name : TaskName) (permit :
 
   under_way : IsUnderWay policy
   under_way = subst IsUnderWay (is.applied (supply_of value permit))
-      (given_permits_are_under_way_without_upper world (supply_of value permit) task permit whole.in_world
-      whole.overlays.read_only is.given).0
+      (given_permits_are_under_way_anywhere world (supply_of value permit) task permit whole.in_world
+      (given_to_task (supply_of value permit) world task permit is.given)).0
 
   same_mounts : policy.mounts ≡ map final world.mounts
   same_mounts = grind (arith, common_steps, map_twice, map)
@@ -255,10 +255,10 @@ module _ (value : WorldValue) (whole : IsHeld value) (name : TaskName) (permit :
         between_merged is_kept) gone closed) turn in
         let kept_last = subst (λ one. IsKeptBut value [] [] come detaching.lost one
         (kept_with mounts filesystems overlays)) detaching.ends detaching.is in
-        finished_as value whole name permit task policy is typed alike come detaching.lost (typed_value groups untyped)
+        finished_as value whole name permit task policy is typed alike same_filesystems come detaching.lost (typed_value groups untyped)
         (swept_typed groups untyped value start come detaching.lost
-        (detached_swept value start come detaching.lost untyped overlays kept_last refl refl
-        (same_files_keep value world start refl (keeps_itself value whole.overlays)) refl refl)) settled_typed_has
+        (detached_swept value start come detaching.lost untyped overlays kept_last refl refl refl refl refl))
+        settled_typed_has
         (counts_typed groups untyped
         (detached_counted value start come detaching.lost untyped overlays kept_last refl refl
         (all_from_among (CountsWhatIsInIt (world_of untyped)) value.namespaces (λ entry m.

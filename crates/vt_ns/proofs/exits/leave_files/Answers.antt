@@ -34,6 +34,7 @@ pub loop-file-init : goal.loop-file-init
 loop-file-init c = record {
   left = refl;
   overlays = left_itself c.args.store.now.overlays c.args.store.now.overlays refl;
+  still = c.requires;
   slots = refl;
 }
 
@@ -48,5 +49,6 @@ loop-file-preserved c =
           c.writes.ensures c.loop-file.invariant.left c.leave.ensures.left;
       overlays = left_twice c.args.store.now.overlays c.loop-file.store.overlays c.leave.new.store.overlays
           c.loop-file.invariant.overlays c.leave.ensures.overlays;
+      still = c.leave.ensures.still;
       slots = next_small files place _ within c.loop-file.invariant.slots c.leave.ensures.slot;
     }

@@ -2,7 +2,14 @@ use Rattle.std.proofs.Common.{ap, ◌∙◌, ◌++◌, ◌∷◌, []}
 use Rattle.vt_fs.specs.FilesystemsValue.{without}
 use Rattle.vt_mounting.proofs.attach.NewFilesystems.{removed_again}
 use Rattle.vt_ns.proofs.Common.{StoreValue}
+use Rattle.vt_ns.proofs.world.NodesUncounted.{still_added}
 use Rattle.vt_ns.proofs.mounting.mount_new.Goals as goal
+
+pub attach_graft-requires-clause-none : goal.attach_graft-requires-clause-none
+attach_graft-requires-clause-none c =
+    let made = c.in_ok-add.ensures.ok in
+    still_added c.args.store.now c.requires.none c.add.new.self made.0 made.2.counts c.requires.above_overlays
+    (made.1 ∙ ap (λ all. all ++ made.0 ∷ []) c.plain_mut.ensures.value)
 
 pub returns-in-Err-clause-err_store : goal.returns-in-Err-clause-err_store
 returns-in-Err-clause-err_store c =

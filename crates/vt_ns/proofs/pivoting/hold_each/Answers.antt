@@ -5,8 +5,8 @@ use Rattle.vt_ns.proofs.CountingLemmas.{room_still}
 use Rattle.vt_ns.specs.Pivoting.{with_uses}
 use Rattle.vt_ns.proofs.pivoting.hold_each.Goals as goal
 
-pub hold_once_more-requires : goal.hold_once_more-requires
-hold_once_more-requires c = grind (arith, common_steps)
+pub hold_once_more-requires-clause-room : goal.hold_once_more-requires-clause-room
+hold_once_more-requires-clause-room c = grind (arith, common_steps)
 
 pub loop-preserved : goal.loop-preserved
 loop-preserved c =
@@ -15,6 +15,7 @@ loop-preserved c =
       held = c.hold_once_more.ensures.held ∙ ap (with_location c.args.at false) c.loop.invariant.held
           ∙ ap (λ n. with_uses n c.args.at (kept c.args.mounts.now c.args.store.now)) (sym (add-one c.loop.counter));
       overlays = c.hold_once_more.ensures.overlays ∙ c.loop.invariant.overlays;
+      still = c.hold_once_more.ensures.still;
       room = room_still left c.args.at c.args.at c.loop.mounts c.hold_once_more.new.mounts c.loop.store
           c.hold_once_more.new.store
           (subst (λ n. HasRoom n c.args.at c.loop.mounts c.loop.store.plain) one c.loop.invariant.room)

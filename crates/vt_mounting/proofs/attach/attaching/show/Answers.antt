@@ -1,40 +1,34 @@
-use Rattle.std.proofs.Common.{ap, arith, subst, sym, true, ◌<◌, ◌≡◌, ◌∙◌}
-use Rattle.vt_spec.proofs.Common.{uses_in}
-use Rattle.vt_location.specs.declared.mounts.Mount.{Mount}
-use Rattle.vt_mounting.proofs.Common.{Filesystems, counted, entry_at, inodes_at, number_of, shown}
-use Rattle.vt_mounting.specs.Attach.Room.{has_room, point_has_room}
+use Rattle.std.proofs.Common.{ap, arith, subst, sym, true, ◌≡◌, ◌∙◌}
+use Rattle.vt_mounting.proofs.Common.{counted, shown}
+use Rattle.vt_mounting.specs.Attach.Room.{point_has_room}
 use Rattle.vt_mounting.specs.Detach.Uses.{inode_of, pinned_at, pinned_in}
-use Rattle.vt_mounting.proofs.attach.RoomLemmas.{filesystem_has_room, granted, held_shown, mounted_placed, point_room_left, point_room_mounted, root_has_room}
-use Rattle.vt_mounting.proofs.detach.Shown.{mounts_are_shown}
+use Rattle.vt_mounting.proofs.attach.RoomLemmas.{filesystem_has_room, mounted_placed, point_room_left, point_room_mounted, root_has_room}
 use Rattle.vt_mounting.proofs.attach.attaching.show.Goals as goal
 
--- a root with room is held
-pub hold_root-few : (old : Filesystems) (mount : Mount) → has_room 18446744073709551613 (shown old) mount ≡ true
-    → (uses_in ((inodes_at old mount.root.filesystem.count).inode (number_of mount.root)) < 18446744073709551615)
-    × ((entry_at old mount.root.filesystem.count).mounts < 18446744073709551615)
-hold_root-few old mount room =
-    let uses = root_has_room 18446744073709551613 old mount room in
-    let mounts = filesystem_has_room 18446744073709551613 (shown old) mount room in
-    let shows = mounts_are_shown mount.root.filesystem.count old in
-    (omega (arith, uses), omega (arith, mounts, shows))
+pub show_root-requires-clause-uses : goal.show_root-requires-clause-uses
+show_root-requires-clause-uses c =
+    let few = root_has_room 18446744073709551613 (shown c.args.store.now.plain) c.args.mount.now c.requires.room in
+    omega (arith, few)
 
-pub pin_point-requires : goal.pin_point-requires
-pin_point-requires c =
-    let old = c.args.filesystems.now in
-    let root = c.args.mount.now.root in
-    let few = hold_root-few old c.args.mount.now c.requires in
-    let held = held_shown root.filesystem.count (number_of root) old c.hold_root.new.self
-    (granted c.hold_root.result (c.hold_root.ensures.few few.1 few.0) c.hold_root.ensures.ok) in
-    subst (λ all. point_has_room 18446744073709551614 all c.args.mount.now.mount_point ≡ true) (sym held)
-    (point_room_mounted 18446744073709551614 (counted root.filesystem.count) (pinned_in (inode_of root) (shown old))
-    c.args.mount.now.mount_point (point_room_left (shown old) c.args.mount.now c.requires))
+pub show_root-requires-clause-mounts : goal.show_root-requires-clause-mounts
+show_root-requires-clause-mounts c =
+    let few = filesystem_has_room 18446744073709551613 (shown c.args.store.now.plain) c.args.mount.now c.requires.room in
+    omega (arith, few)
 
-pub returns : goal.returns
-returns c =
-    let old = c.args.filesystems.now in
-    let root = c.args.mount.now.root in
-    let few = hold_root-few old c.args.mount.now c.requires in
-    let held = held_shown root.filesystem.count (number_of root) old c.hold_root.new.self
-    (granted c.hold_root.result (c.hold_root.ensures.few few.1 few.0) c.hold_root.ensures.ok) in
-    c.pin_point.ensures ∙ ap (pinned_at c.args.mount.now.mount_point) held
-    ∙ mounted_placed (counted root.filesystem.count) c.args.mount.now.mount_point (pinned_in (inode_of root) (shown old))
+pub pin_point-requires-clause-room : goal.pin_point-requires-clause-room
+pin_point-requires-clause-room c =
+    let old = shown c.args.store.now.plain in
+    let mount = c.args.mount.now in
+    subst (λ all. point_has_room 18446744073709551614 all mount.mount_point ≡ true) (sym c.show_root.ensures.uses)
+    (point_room_mounted 18446744073709551614 (counted mount.root.filesystem.count)
+    (pinned_in (inode_of mount.root) old) mount.mount_point (point_room_left old mount c.requires.room))
+
+pub returns-clause-uses : goal.returns-clause-uses
+returns-clause-uses c =
+    let mount = c.args.mount.now in
+    c.pin_point.ensures.uses ∙ ap (pinned_at mount.mount_point) c.show_root.ensures.uses
+    ∙ mounted_placed (counted mount.root.filesystem.count) mount.mount_point
+    (pinned_in (inode_of mount.root) (shown c.args.store.now.plain))
+
+pub returns-clause-overlays : goal.returns-clause-overlays
+returns-clause-overlays c = c.pin_point.ensures.overlays ∙ c.show_root.ensures.overlays

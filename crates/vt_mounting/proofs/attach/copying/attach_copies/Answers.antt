@@ -8,8 +8,8 @@ use Rattle.vt_mounting.specs.Detach.Uses.{Kept, with_attached}
 use Rattle.vt_mounting.proofs.attach.UnsharingLemmas.{copies_ascend}
 use Rattle.vt_mounting.proofs.attach.copying.attach_copies.Goals as goal
 
-pub attach_planned-requires : goal.attach_planned-requires
-attach_planned-requires c = λ order.
+pub attach_planned-requires-clause-ascending : goal.attach_planned-requires-clause-ascending
+attach_planned-requires-clause-ascending c = λ order.
     let all = mounts_in c.args.mounts.now in
     ap (λ new. are_ascending (all ++ new)) (ap (map mount_of) c.deref.ensures.value ∙ c.in_ok-added.ensures)
     ∙ copies_ascend c.args.next all

@@ -6,8 +6,8 @@ use Rattle.vt_mounting.specs.Attach.Planned.{Point}
 use Rattle.vt_mounting.specs.Attach.PlannedUses.{point_seen}
 use Rattle.vt_mounting.proofs.attach.grafted.attach_graft.Goals as goal
 
-pub attach_planned-requires : goal.attach_planned-requires
-attach_planned-requires c = λ order.
+pub attach_planned-requires-clause-ascending : goal.attach_planned-requires-clause-ascending
+attach_planned-requires-clause-ascending c = λ order.
     let may = c.requires.may in
     let front = mounts_in c.args.mounts.now in
     let attaches = c.in_ok-plan.ensures.ok may.world may.seen may.one_child may.parts_are in

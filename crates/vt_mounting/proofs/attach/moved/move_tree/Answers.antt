@@ -15,8 +15,8 @@ use Rattle.vt_mounting.proofs.attach.moved.move_tree.Goals as goal
 from_there : {A : Type 0} (n : ℕ) (xs : List A) → take (length xs - n) (drop n xs) ≡ drop n xs
 from_there n xs = (λ i. take (sym (length-drop n xs) i) (drop n xs)) ∙ take-length (drop n xs)
 
-pub attach_grouped-requires : goal.attach_grouped-requires
-attach_grouped-requires c = λ order.
+pub attach_grouped-requires-clause-ascending : goal.attach_grouped-requires-clause-ascending
+attach_grouped-requires-clause-ascending c = λ order.
     let may = c.requires.may in
     let n = length c.args.graft.now.tree.now in
     let front = mounts_in c.args.mounts.now in

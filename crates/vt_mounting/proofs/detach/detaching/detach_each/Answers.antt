@@ -5,7 +5,11 @@ use Rattle.vt_mounting.proofs.detach.OverlaysListed.{left_itself, left_twice}
 use Rattle.vt_mounting.proofs.detach.detaching.detach_each.Goals as goal
 
 pub loop-id-init : goal.loop-id-init
-loop-id-init c = (λ last turn. turn, left_itself c.args.store.now.overlays c.args.store.now.overlays refl)
+loop-id-init c = (
+  λ last turn. turn,
+  left_itself c.args.store.now.overlays c.args.store.now.overlays refl,
+  c.requires,
+)
 
 pub loop-id-preserved : goal.loop-id-preserved
 loop-id-preserved c = (
@@ -14,4 +18,5 @@ loop-id-preserved c = (
       c.detach.ensures.left turn),
   left_twice c.args.store.now.overlays c.loop-id.store.overlays c.detach.new.store.overlays c.loop-id.invariant.1
       c.detach.ensures.overlays,
+  c.detach.ensures.still,
 )

@@ -21,6 +21,7 @@ loop-last-init c = record {
   groups = λ world has live. none_yet as_private world c.args.groups.now live has;
   types = still_at_first c.args.groups.now c.args.mounts.now;
   overlays = left_itself c.args.store.now.overlays c.args.store.now.overlays refl;
+  still = c.requires;
 }
 
 pub loop-last-smaller : goal.loop-last-smaller
@@ -81,6 +82,7 @@ loop-last-preserved c =
           c.leave.ensures.told c.leave.ensures.slaves);
       overlays = left_twice c.args.store.now.overlays c.loop-last.store.overlays c.detach.new.store.overlays
           sofar.overlays c.detach.ensures.overlays;
+      still = c.detach.ensures.still;
     }
 
 pub returns-clause-left : goal.returns-clause-left

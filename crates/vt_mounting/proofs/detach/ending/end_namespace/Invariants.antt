@@ -4,7 +4,7 @@ use Rattle.vt_mounting.proofs.Common.{AllGroupsLive, AreTyped, Has, MountEntry, 
 use Rattle.vt_group.specs.Together.{with_changed}
 use Rattle.vt_retype.specs.Leaving.{OnlyTypesChange}
 use Rattle.vt_mounting.specs.Detach.NamespacesLeft.{AreDetached, Detached, is_attached_in}
-use Rattle.vt_mounting.specs.Detach.Stored.{OverlaysLeft, kept}
+use Rattle.vt_mounting.specs.Detach.Stored.{CountNoUses, OverlaysLeft, kept}
 use Rattle.vt_mounting.proofs.detach.TypesAside.{gone_numbers}
 use Rattle.vt_mounting.proofs.detach.ending.end_namespace.Given as goal
 
@@ -21,6 +21,7 @@ invariant-loop-last l = record {
   types : AreTyped l.initial.groups l.initial.mounts
       → StillTyped l.groups (gone_numbers gone) (gone_numbers gone) l.mounts;
   overlays : OverlaysLeft l.initial.store.overlays l.store.overlays;
+  still : CountNoUses l.store;
 }
 
 -- how many are still to go

@@ -11,8 +11,12 @@ use Rattle.vt_ns.specs.Counting.{counted_for}
 use Rattle.vt_ns.proofs.world.Counted.{counted_so}
 use Rattle.vt_ns.proofs.world.BoundEvents.{bind_place_there, parts_found, place_mounted}
 use Rattle.vt_ns.proofs.world.StoresKept.{kept_is}
+use Rattle.vt_ns.proofs.world.NodesUncounted.{counts_none}
 use Rattle.vt_ns.proofs.world.World.bind.Goals as goal
 use Rattle.vt_ns.proofs.world.World.bind.Goals.{After-graft-1}
+
+pub attach_graft-requires-clause-none : goal.attach_graft-requires-clause-none
+attach_graft-requires-clause-none c = counts_none (the_view c.self.inside) c.self.inside.store c.self.invariant
 
 pub mounts_bound-requires : goal.mounts_bound-requires
 mounts_bound-requires c =

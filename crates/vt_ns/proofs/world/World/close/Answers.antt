@@ -7,7 +7,11 @@ use Rattle.vt_ns.specs.contracts.world.World.{the_view}
 use Rattle.vt_mounting.proofs.detach.Closing.{file_is_closed, nothing_is_closed}
 use Rattle.vt_ns.proofs.world.StoresKept.{kept_is}
 use Rattle.vt_ns.proofs.world.Births.{births_are, held_with, tasks_are}
+use Rattle.vt_ns.proofs.world.NodesUncounted.{counts_none}
 use Rattle.vt_ns.proofs.world.World.close.Goals as goal
+
+pub leave-requires : goal.leave-requires
+leave-requires c = counts_none (the_view c.self.inside) c.self.inside.store c.self.invariant
 
 abbrev after_leaving : (c : goal.After-leave) → WorldValue
 after_leaving c = record (remade (the_view c.self.inside) c.leave.new.mounts c.leave.new.store.plain c.close.new.self.tasks) {

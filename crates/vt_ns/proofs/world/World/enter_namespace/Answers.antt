@@ -9,8 +9,15 @@ use Rattle.vt_mounting.proofs.detach.Entered.{namespace_has_a_root, task_enters}
 use Rattle.vt_ns.specs.Entering.{HasRoomToEnter}
 use Rattle.vt_ns.proofs.world.StoresKept.{kept_is}
 use Rattle.vt_ns.proofs.world.Births.{births_are, held_with, tasks_are}
+use Rattle.vt_ns.proofs.world.NodesUncounted.{counts_none}
 use Rattle.vt_ns.proofs.world.World.enter_namespace.Goals.{then-not-has_room-via-then-not-has_room, then-not-has_room-via-else-not-has_room+then-not-has_room_for_task}
 use Rattle.vt_ns.proofs.world.World.enter_namespace.Goals as goal
+
+pub has_room-requires : goal.has_room-requires
+has_room-requires c = counts_none (the_view c.self.inside) c.self.inside.store c.self.invariant
+
+pub hold_once_more-requires-clause-none : goal.hold_once_more-requires-clause-none
+hold_once_more-requires-clause-none c = counts_none (the_view c.self.inside) c.self.inside.store c.self.invariant
 
 pub unwrap-root-requires : goal.unwrap-root-requires
 unwrap-root-requires c =
@@ -18,8 +25,8 @@ unwrap-root-requires c =
     (subst (λ value. Permits value c.args.name.now (ToEnterNamespace (counted c.args.namespace.count)))
     (sym c.self.view_is) c.requires) c.namespace_root.ensures
 
-pub hold_once_more-requires-2 : goal.hold_once_more-requires-2
-hold_once_more-requires-2 c =
+pub hold_once_more-requires-2-clause-room : goal.hold_once_more-requires-2-clause-room
+hold_once_more-requires-2-clause-room c =
     room_left c.unwrap-root.result c.unwrap-root.result c.self.inside.mounts c.hold_once_more.new.mounts
     c.self.inside.store c.hold_once_more.new.store
     (c.has_room.ensures.0 (let room = c.if-not-has_room.false in search rules)) c.hold_once_more.ensures.held

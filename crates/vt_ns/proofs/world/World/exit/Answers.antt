@@ -5,7 +5,11 @@ use Rattle.vt_ns.specs.contracts.world.World.{the_view}
 use Rattle.vt_mounting.proofs.detach.Exiting.{task_exits}
 use Rattle.vt_ns.proofs.world.StoresKept.{kept_is}
 use Rattle.vt_ns.proofs.world.Births.{births_are, held_with, tasks_are}
+use Rattle.vt_ns.proofs.world.NodesUncounted.{counts_none}
 use Rattle.vt_ns.proofs.world.World.exit.Goals as goal
+
+pub leave-requires : goal.leave-requires
+leave-requires c = counts_none (the_view c.self.inside) c.self.inside.store c.self.invariant
 
 abbrev after : (c : goal.After-drop-task-6) → WorldValue
 after c = record {

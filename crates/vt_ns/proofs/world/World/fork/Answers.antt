@@ -7,14 +7,24 @@ use Rattle.vt_ns.proofs.world.ForkedTasks.{may_fork, task_is_forked}
 use Rattle.vt_ns.proofs.world.RemainingTasks.{remade_in}
 use Rattle.vt_ns.proofs.world.StoresKept.{kept_is, same_in_store}
 use Rattle.vt_ns.proofs.world.Births.{held_with}
+use Rattle.vt_ns.proofs.world.NodesUncounted.{counts_none}
 use Rattle.vt_ns.proofs.world.World.fork.Goals as goal
+
+pub has_room-requires : goal.has_room-requires
+has_room-requires c = counts_none (the_view c.self.inside) c.self.inside.store c.self.invariant
+
+pub has_room-requires-else-not-has_room : goal.has_room-requires-else-not-has_room
+has_room-requires-else-not-has_room c = counts_none (the_view c.self.inside) c.self.inside.store c.self.invariant
+
+pub hold_once_more-requires-clause-none : goal.hold_once_more-requires-clause-none
+hold_once_more-requires-clause-none c = counts_none (the_view c.self.inside) c.self.inside.store c.self.invariant
 
 pub fork-requires : goal.fork-requires
 fork-requires c = may_fork (the_view c.self.inside) c.self.invariant c.args.name.now c.args.cred
     (subst (λ value. Permits value c.args.name.now (ToFork c.args.cred)) (sym c.self.view_is) c.requires)
 
-pub hold_once_more-requires-2 : goal.hold_once_more-requires-2
-hold_once_more-requires-2 c =
+pub hold_once_more-requires-2-clause-room : goal.hold_once_more-requires-2-clause-room
+hold_once_more-requires-2-clause-room c =
     room_left c.unwrap-parent.result.now.root c.unwrap-parent.result.now.directory c.self.inside.mounts
     c.hold_once_more.new.mounts c.self.inside.store c.hold_once_more.new.store (c.has_room-else-not-has_room.ensures.0
     (let room = c.if-not-has_room-2.false in search rules)) c.hold_once_more.ensures.held

@@ -1,6 +1,6 @@
-use Rattle.std.proofs.Common.{ap, find, is_some, map, nat_eq, sym, ◌∙◌}
+use Rattle.std.proofs.Common.{ap, find, is_some, nat_eq, sym, ◌∙◌}
 use Rattle.vt_spec.proofs.Common.{Namespace}
-use Rattle.vt_ns.proofs.Common.{WorldValue, counted, namespace_of, world_of}
+use Rattle.vt_ns.proofs.Common.{WorldValue, counted, world_of}
 use Rattle.vt_ns.proofs.world.FilesystemsThere.{namespace_there}
 use Rattle.vt_ns.proofs.world.World.has_namespace.Goals as goal
 

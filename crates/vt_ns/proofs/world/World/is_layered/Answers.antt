@@ -1,4 +1,4 @@
-use Rattle.std.proofs.Common.{Bool, Option, Some, ap, false, nat_eq, option_map, option_to_list, rules, sym, ◌≡◌, ◌∙◌, ◌||◌}
+use Rattle.std.proofs.Common.{Bool, Option, Some, ap, false, nat_eq, option_map, option_to_list, rules, sym, ◌≡◌, ◌∙◌}
 use Rattle.vt_spec.proofs.Common.{is_overlay_at, layer_at, list_any, live_layers, or-false, overlaps_one_of}
 use Rattle.vt_location.specs.declared.locations.Location.{Location}
 use Rattle.vt_ns.proofs.Common.{WorldValue, location_of, looks_of_value, world_of}

@@ -5,14 +5,19 @@ use Rattle.vt_ns.specs.OverlayMounts.{IsPlainLayer, MountsOverlay}
 use Rattle.vt_ns.specs.contracts.world.World.{the_view}
 use Rattle.vt_ns.specs.Grants.{GrantsOverlay}
 use Rattle.vt_ns.specs.Vacancy.{NextFilesystemIsNew}
+use Rattle.vt_mounting.proofs.attach.NewFilesystems.{next_is_above}
 use Rattle.vt_ns.proofs.Granting.{overlay_permitted}
 use Rattle.vt_ns.proofs.world.BoundEvents.{parts_found}
 use Rattle.vt_ns.proofs.world.Counted.{as_many_mounts}
 use Rattle.vt_ns.proofs.world.OverlayEvents.{PermitsOverlay, destination_mounted, layers_are_plain, neither_there, overlays_below, some_kept}
 use Rattle.vt_ns.proofs.world.OverlaysMounted.{MountsIt, may_mount_overlay, overlay_mounted}
 use Rattle.vt_ns.proofs.world.VacantNumbers.{next_is_new}
+use Rattle.vt_ns.proofs.world.NodesUncounted.{counts_none, none_so_young}
 use Rattle.vt_ns.proofs.world.World.mount_overlay.Goals as goal
 use Rattle.vt_ns.proofs.world.World.mount_overlay.Goals.{After-graft-1, After-as_slice}
+
+pub attach_overlay-requires-clause-none : goal.attach_overlay-requires-clause-none
+attach_overlay-requires-clause-none c = counts_none (the_view c.self.inside) c.self.inside.store c.self.invariant
 
 -- it has neither an upper layer nor a work directory
 lower : (c : After-as_slice) → (c.args.new.upper ≡ None) × (c.args.new.work ≡ None)
@@ -91,6 +96,10 @@ mounts c =
 pub attach_overlay-requires-clause-may : goal.attach_overlay-requires-clause-may
 attach_overlay-requires-clause-may c =
     may_mount_overlay (the_view c.self.inside) c.self.inside.store c.args.name.now c.args.new (mounts c)
+
+pub attach_overlay-requires-clause-apart : goal.attach_overlay-requires-clause-apart
+attach_overlay-requires-clause-apart c = none_so_young c.self.inside.next c.self.inside.store.plain
+    (next_is_above (the_view c.self.inside) c.self.invariant)
 
 pub attach_overlay-requires-clause-above : goal.attach_overlay-requires-clause-above
 attach_overlay-requires-clause-above c = overlays_below (the_view c.self.inside) c.self.inside.store c.self.invariant

@@ -15,8 +15,13 @@ use Rattle.vt_ns.proofs.world.Counted.{as_many_mounts}
 use Rattle.vt_ns.proofs.world.BoundEvents.{parts_found, place_mounted}
 use Rattle.vt_ns.proofs.world.StoresKept.{kept_is}
 use Rattle.vt_ns.proofs.world.VacantNumbers.{root_is_vacant}
+use Rattle.vt_ns.proofs.world.NodesUncounted.{counts_none}
+use Rattle.vt_ns.proofs.world.OverlayEvents.{overlays_below}
 use Rattle.vt_ns.proofs.world.World.mount_plain.Goals as goal
 use Rattle.vt_ns.proofs.world.World.mount_plain.Goals.{After-graft-1}
+
+pub mount_new-requires-clause-none : goal.mount_new-requires-clause-none
+mount_new-requires-clause-none c = counts_none (the_view c.self.inside) c.self.inside.store c.self.invariant
 
 pub parts-requires : goal.parts-requires
 parts-requires c =
@@ -30,6 +35,9 @@ parts-requires c =
     place_mounted (the_view c.self.inside) c.args.place
     (destination_there (the_view c.self.inside) c.self.invariant c.args.name.now (location_of c.args.place)
     (flags_of c.args.flags) permits)
+
+pub mount_new-requires-clause-above_overlays : goal.mount_new-requires-clause-above_overlays
+mount_new-requires-clause-above_overlays c = overlays_below (the_view c.self.inside) c.self.inside.store c.self.invariant
 
 pub mount_new-requires-clause-above : goal.mount_new-requires-clause-above
 mount_new-requires-clause-above c = next_is_above (the_view c.self.inside) c.self.invariant

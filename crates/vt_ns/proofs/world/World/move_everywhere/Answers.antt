@@ -11,8 +11,12 @@ use Rattle.vt_ns.proofs.world.Counted.{counted_so}
 use Rattle.vt_ns.proofs.world.BoundEvents.{parts_found, place_mounted}
 use Rattle.vt_ns.proofs.world.MovedEvents.{move_place_there, moved_there}
 use Rattle.vt_ns.proofs.world.StoresKept.{kept_is}
+use Rattle.vt_ns.proofs.world.NodesUncounted.{counts_none}
 use Rattle.vt_ns.proofs.world.World.move_everywhere.Goals as goal
 use Rattle.vt_ns.proofs.world.World.move_everywhere.Goals.{After-graft-1}
+
+pub move_tree-requires-clause-none : goal.move_tree-requires-clause-none
+move_tree-requires-clause-none c = counts_none (the_view c.self.inside) c.self.inside.store c.self.invariant
 
 pub mounts_below-requires : goal.mounts_below-requires
 mounts_below-requires c =

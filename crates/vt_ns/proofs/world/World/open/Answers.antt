@@ -5,7 +5,14 @@ use Rattle.vt_ns.specs.contracts.world.World.{the_view}
 use Rattle.vt_ns.proofs.world.FilesOpened.{file_is_opened, may_open_more}
 use Rattle.vt_ns.proofs.world.StoresKept.{kept_is, same_in_store}
 use Rattle.vt_ns.proofs.world.Births.{births_are, held_with, tasks_are}
+use Rattle.vt_ns.proofs.world.NodesUncounted.{counts_none}
 use Rattle.vt_ns.proofs.world.World.open.Goals as goal
+
+pub has_room-requires : goal.has_room-requires
+has_room-requires c = counts_none (the_view c.self.inside) c.self.inside.store c.self.invariant
+
+pub hold_once_more-requires-clause-none : goal.hold_once_more-requires-clause-none
+hold_once_more-requires-clause-none c = counts_none (the_view c.self.inside) c.self.inside.store c.self.invariant
 
 pub open-requires : goal.open-requires
 open-requires c = may_open_more (the_view c.self.inside) c.self.invariant c.args.name.now (location_of c.args.file)

@@ -5,6 +5,7 @@ use Rattle.vt_ns.specs.contracts.world.World.{the_view}
 use Rattle.vt_ns.proofs.Common.{Becomes, Permits, with_store, WorldValue}
 use Rattle.vt_ns.proofs.world.DirectoryRemoved.{directory_goes, directory_goes_alone}
 use Rattle.vt_ns.proofs.world.FileRemoving.{removal_fits, removed_in, removed_is_kept}
+use Rattle.vt_ns.proofs.world.NodesUncounted.{counts_none, still_changed}
 use Rattle.vt_ns.proofs.world.World.remove_directory.Goals as goal
 use Rattle.vt_ns.proofs.world.World.remove_directory.Goals.{then-not-is_empty, else-not-is_empty}
 
@@ -34,6 +35,11 @@ unlink-requires-clause-empty c =
     c.args.removed.parent c.args.removed.name.items c.args.removed.directory (omega arith) (omega arith)
     (subst (λ value. Permits value c.args.name.now (remove_permit (Directory c.args.removed)))
     (sym c.self.view_is) c.requires)).1)
+
+pub detach_together-requires : goal.detach_together-requires
+detach_together-requires c =
+    still_changed c.self.inside.store (counts_none (the_view c.self.inside) c.self.inside.store c.self.invariant)
+    c.unlink.new.self (rw c.plain_mut.ensures.value at c.unlink.ensures)
 
 pub invariant_of-self : goal.invariant_of-self
 invariant_of-self c =

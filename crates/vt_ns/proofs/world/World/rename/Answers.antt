@@ -3,6 +3,7 @@ use Rattle.vt_permits.specs.GrantValue.{rename_permit}
 use Rattle.vt_ns.specs.contracts.world.World.{the_view}
 use Rattle.vt_ns.proofs.Common.{Becomes, Permits, with_store, WorldValue}
 use Rattle.vt_ns.proofs.world.FileRenaming.{rename_fits, renamed_is_kept, renamed_object, renamed_to}
+use Rattle.vt_ns.proofs.world.NodesUncounted.{counts_none, still_changed}
 use Rattle.vt_ns.proofs.world.RenamedOver.{rename_over, rename_stays}
 use Rattle.vt_ns.proofs.world.World.rename.Goals as goal
 use Rattle.vt_ns.proofs.world.World.rename.Goals.{then-not-is_empty, else-not-is_empty}
@@ -56,6 +57,11 @@ rename-requires-clause-outside c =
     c.args.renamed.from c.args.renamed.old.items c.args.renamed.to c.args.renamed.new.items c.args.renamed.object
     c.args.renamed.replaced (omega arith) (omega arith) (omega arith) (subst (λ value. Permits value c.args.name.now
     (rename_permit c.args.renamed)) (sym c.self.view_is) c.requires)).3)
+
+pub detach_together-requires : goal.detach_together-requires
+detach_together-requires c =
+    still_changed c.self.inside.store (counts_none (the_view c.self.inside) c.self.inside.store c.self.invariant)
+    c.rename.new.self (rw c.plain_mut.ensures.value at c.in_ok-rename.ensures.ok)
 
 pub invariant_of-self-then-not-is_empty : goal.invariant_of-self-then-not-is_empty
 invariant_of-self-then-not-is_empty c =

@@ -5,7 +5,11 @@ use Rattle.vt_ns.specs.contracts.world.World.{the_view}
 use Rattle.vt_mounting.proofs.detach.Places.{root_is_set}
 use Rattle.vt_ns.proofs.world.StoresKept.{kept_is}
 use Rattle.vt_ns.proofs.world.Births.{births_are, held_with, tasks_are}
+use Rattle.vt_ns.proofs.world.NodesUncounted.{counts_none}
 use Rattle.vt_ns.proofs.world.World.set_root.Goals as goal
+
+pub hold-requires : goal.hold-requires
+hold-requires c = counts_none (the_view c.self.inside) c.self.inside.store c.self.invariant
 
 abbrev after : (c : goal.After-leave) → WorldValue
 after c = record (remade (the_view c.self.inside) c.leave.new.mounts c.leave.new.store.plain c.set_root.new.self.tasks) {

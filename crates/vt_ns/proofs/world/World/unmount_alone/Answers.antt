@@ -6,7 +6,11 @@ use Rattle.vt_ns.specs.Unmounting.{unmounts_alone}
 use Rattle.vt_mounting.specs.Detach.Uses.{without_attachment}
 use Rattle.vt_mounting.proofs.detach.UnmountedAlone.{unmount_is_done}
 use Rattle.vt_ns.proofs.world.StoresKept.{kept_is}
+use Rattle.vt_ns.proofs.world.NodesUncounted.{counts_none}
 use Rattle.vt_ns.proofs.world.World.unmount_alone.Goals as goal
+
+pub detach-requires : goal.detach-requires
+detach-requires c = counts_none (the_view c.self.inside) c.self.inside.store c.self.invariant
 
 abbrev after : (c : goal.After-detach) → WorldValue
 after c = with_store c.detach.new.store (record (the_view c.self.inside) { mounts = c.detach.new.mounts })

@@ -6,7 +6,11 @@ use Rattle.vt_ns.specs.contracts.world.World.{the_view}
 use Rattle.vt_ns.specs.Unmounting.{GoTogether}
 use Rattle.vt_ns.proofs.world.UnmountedEverywhere.{unmounted_lazily}
 use Rattle.vt_ns.proofs.world.StoresKept.{kept_is}
+use Rattle.vt_ns.proofs.world.NodesUncounted.{counts_none}
 use Rattle.vt_ns.proofs.world.World.unmount_lazily_everywhere.Goals as goal
+
+pub take_away-requires : goal.take_away-requires
+take_away-requires c = counts_none (the_view c.self.inside) c.self.inside.store c.self.invariant
 
 abbrev after : (c : goal.After-drop-plan-3) → WorldValue
 after c = with_store c.take_away.new.store

@@ -5,7 +5,11 @@ use Rattle.vt_ns.specs.contracts.world.World.{the_view}
 use Rattle.vt_ns.specs.Unmounting.{are_ungrouped, stands_on_shared}
 use Rattle.vt_mounting.proofs.detach.UnmountedLazily.{lazy_unmount_is_done}
 use Rattle.vt_ns.proofs.world.StoresKept.{kept_is}
+use Rattle.vt_ns.proofs.world.NodesUncounted.{counts_none}
 use Rattle.vt_ns.proofs.world.World.unmount_tree_alone.Goals as goal
+
+pub detach_each-requires : goal.detach_each-requires
+detach_each-requires c = counts_none (the_view c.self.inside) c.self.inside.store c.self.invariant
 
 abbrev after : (c : goal.After-detach_each) → WorldValue
 after c = with_store c.detach_each.new.store (record (the_view c.self.inside) { mounts = c.detach_each.new.mounts })

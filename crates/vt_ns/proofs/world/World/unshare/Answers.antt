@@ -13,7 +13,11 @@ use Rattle.vt_mounting.proofs.attach.TasksUnshared.{task_is_unshared}
 use Rattle.vt_mounting.proofs.attach.UnsharingLemmas.{namespace_added, numbers_before, uses_left, uses_left_then, writers_left, writers_left_then}
 use Rattle.vt_ns.proofs.world.StoresKept.{kept_is}
 use Rattle.vt_ns.proofs.world.Births.{births_are, held_with, tasks_are}
+use Rattle.vt_ns.proofs.world.NodesUncounted.{counts_none}
 use Rattle.vt_ns.proofs.world.World.unshare.Goals as goal
+
+pub attach_copies-requires-clause-none : goal.attach_copies-requires-clause-none
+attach_copies-requires-clause-none c = counts_none (the_view c.self.inside) c.self.inside.store c.self.invariant
 
 pub attach_copies-requires-clause-before : goal.attach_copies-requires-clause-before
 attach_copies-requires-clause-before c = numbers_before (the_view c.self.inside) c.self.invariant c.alloc-alloc.ensures.counted
