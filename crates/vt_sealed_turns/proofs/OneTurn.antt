@@ -2,9 +2,8 @@
 use Rattle.std.proofs.Common.{append-nil, ap, ◌∙◌, ℕ, nat_eq, [], ◌∷◌, Option, option_to_list}
 use Rattle.vt_spec.proofs.Common.{Fresh, Reply, Sched, Who, World, turn}
 use Rattle.vt_laws_turns.specs.SameStates.{HandsUnused, IsPlayed}
-use Rattle.vt_turns.specs.SchedValue.{sched_meant}
+use Rattle.vt_turns.specs.SchedValue.{Sched as SchedCode, sched_meant}
 use Rattle.vt_turns.specs.Turned.{TurnsAs, first_allocates, supply}
-use Rattle.vt_turns.specs.declared.sched.Sched.{Sched as SchedCode}
 use Rattle.vt_turns.proofs.SchedTurns.{unused}
 
 module _ {C : Type 0} (seen : C → World ℕ) (old : SchedCode C) (who : Who) (reply : Option Reply) (new : SchedCode C)

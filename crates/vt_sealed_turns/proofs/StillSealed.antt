@@ -5,8 +5,7 @@ use Rattle.vt_laws_trees.proofs.runs.answered.AlikeWorlds.{sameness_is_an_equiva
 use Rattle.vt_laws_turns.proofs.same_states.TurnsAlike.{same_state_is_an_equivalence}
 use Rattle.vt_laws_containers.proofs.same_sets.turns.SealedToo.{others_played_leave_it_sealed, same_scheds_have_it_sealed}
 use Rattle.vt_laws_containers.specs.SameSets.Turns.{HasItSealedToo}
-use Rattle.vt_turns.specs.SchedValue.{sched_meant}
-use Rattle.vt_turns.specs.declared.sched.Sched.{Sched as SchedCode}
+use Rattle.vt_turns.specs.SchedValue.{Sched as SchedCode, sched_meant}
 use Rattle.vt_sealed_turns.specs.Outsiders.{OthersPlayLeavesSetsSealed, OthersTurnsLeaveSetsSealed}
 use Rattle.vt_sealed_turns.proofs.OneTurn.{handed, hands_unused, is_played}
 

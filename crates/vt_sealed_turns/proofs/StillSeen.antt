@@ -6,8 +6,7 @@ use Rattle.vt_laws_turns.proofs.holds.Holding.{schedulers_begin_so, turns_hold_w
 use Rattle.vt_laws_turns.specs.Holds.Held.{HoldsWhatIsSeen}
 use Rattle.vt_laws_turns.specs.SameStates.{SameSched}
 use Rattle.vt_queues.specs.QueuesValue.{queues_meant}
-use Rattle.vt_turns.specs.SchedValue.{sched_meant}
-use Rattle.vt_turns.specs.declared.sched.Sched.{Sched as SchedCode}
+use Rattle.vt_turns.specs.SchedValue.{Sched as SchedCode, sched_meant}
 use Rattle.vt_sealed_turns.specs.Seen.{PlayHoldsWhatIsSeen, SchedulersHoldWhatIsSeen}
 use Rattle.vt_sealed_turns.proofs.OneTurn.{handed, hands_unused, is_played}
 

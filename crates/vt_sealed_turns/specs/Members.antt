@@ -12,9 +12,8 @@ use Rattle.vt_laws_containers.specs.MembersTurns.TheirTurns.{is_directive}
 use Rattle.vt_laws_containers.specs.SameSets.Turns.{GoesAsInThePart}
 use Rattle.vt_laws_containers.specs.SealedTurns.MembersTurns.{HasCallsUnderWay}
 use Rattle.vt_laws_containers.specs.SealedTurns.OutsidersTurns.{IsFirst}
-use Rattle.vt_turns.specs.SchedValue.{sched_meant}
+use Rattle.vt_turns.specs.SchedValue.{Sched, sched_meant}
 use Rattle.vt_turns.specs.Turned.{TurnsAs}
-use Rattle.vt_turns.specs.declared.sched.Sched.{Sched}
 
 -- a turn of a task of a sealed set, of no directive and of no call that enters a namespace of others
 pub record IsMembersTurn (sched : SchedMeant ℕ) (names : List TaskName) (name : TaskName) : Type 0 where

@@ -9,9 +9,8 @@ use Rattle.vt_spec.specs.Machine.World.{World}
 use Rattle.vt_laws_trees.specs.Trees.Limits.{names_few_groups}
 use Rattle.vt_laws_containers.specs.SameSets.Turns.{HasItSealedToo}
 use Rattle.vt_laws_containers.specs.SealedTurns.OutsidersTurns.{HasItSealed, IsFirst, is_of_theirs}
-use Rattle.vt_turns.specs.SchedValue.{sched_meant}
+use Rattle.vt_turns.specs.SchedValue.{Sched, sched_meant}
 use Rattle.vt_turns.specs.Turned.{PlaysAs, TurnsAs}
-use Rattle.vt_turns.specs.declared.sched.Sched.{Sched}
 
 -- a turn of a task outside the set, or of `!`, whose call enters no namespace of theirs
 pub record IsTurnOfAnother (sched : SchedMeant ℕ) (names : List TaskName) (who : Who) : Type 0 where

@@ -9,9 +9,8 @@ use Rattle.vt_laws_trees.specs.Trees.Limits.{names_few_groups}
 use Rattle.vt_laws_turns.specs.Holds.Held.{HoldsWhatIsSeen}
 use Rattle.vt_laws_containers.specs.SealedTurns.OutsidersTurns.{IsFirst}
 use Rattle.vt_queues.specs.declared.queues.Queues.{Queues}
-use Rattle.vt_turns.specs.SchedValue.{begins, sched_meant}
+use Rattle.vt_turns.specs.SchedValue.{Sched, begins, sched_meant}
 use Rattle.vt_turns.specs.Turned.{PlaysAs}
-use Rattle.vt_turns.specs.declared.sched.Sched.{Sched}
 
 -- So they do where a scheduler begins, as `Sched::new` has it,
 abbrev pub SchedulersHoldWhatIsSeen : {C : Type 0} → (C → World ℕ) → Type 0

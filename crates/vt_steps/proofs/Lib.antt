@@ -2,6 +2,7 @@ pub mod Chains
 pub mod Endings
 pub mod FilesWalked
 pub mod ForkRules
+pub mod LastDropped
 pub mod LeftToRight
 pub mod MountsFound
 pub mod Refused

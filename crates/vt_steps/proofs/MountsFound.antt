@@ -1,6 +1,6 @@
 -- A mount that is found by its place is the one found by its number.
 use Rattle.std.proofs.Common.{◌≡◌, refl, ap, sym, ◌∙◌, ℕ, nat_eq, Bool, true, List, find, Option, Some, None, option_map}
-use Rattle.vt_spec.proofs.Common.{Location, Mount, found_among, root_of}
+use Rattle.vt_spec.proofs.Common.{Mount, found_among, root_of}
 use Rattle.vt_mount.proofs.AttachedLemmas.{ascending_found}
 use Rattle.vt_mount.specs.MountsValue.{are_ascending}
 

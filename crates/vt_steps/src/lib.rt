@@ -14,6 +14,6 @@ mod words;
 
 pub use entry::may_begin;
 pub use here::Steps;
-pub use next::next_word;
+pub use next::call_words;
 pub use over::LookOver;
 pub use paths::{Route, routes};

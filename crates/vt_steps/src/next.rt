@@ -1,16 +1,14 @@
-//! The next word of a call.
-ghost use Rattle.std.specs.Prelude.{◌≡◌, ◌++◌, ◌||◌, ◌&&◌, ◌==◌, ◌+◌, IfOk, None, if◌then◌else◌, length, map, nat_eq, option_map, slice_get};
+//! The words of a call.
+ghost use Rattle.std.specs.Prelude.{◌≡◌, ◌++◌, ◌||◌, ◌&&◌, ◌==◌, ◌+◌, IfOk, None, ℕ, if◌then◌else◌, length, map, nat_eq, slice_get};
 ghost use Rattle.vt_spec.specs.Machine.Turns.{routes, some_fails, words_of};
 ghost use Rattle.vt_request.specs.Requests.{call_of};
 ghost use Rattle.vt_tasks.specs.TaskValue.{task_of};
 ghost use Rattle.vt_steps.specs.RouteValue.{met_next, route_of, words_in};
-ghost use Rattle.vt_steps.specs.StepsValue.{met_of};
 
 use crate::here::Steps;
 use crate::over::LookOver;
 use crate::paths::{Route, routes};
 use std::alloc::{AllocError, Global};
-use vt_location::FilesystemId;
 use vt_request::Call;
 use vt_tasks::Task;
 
@@ -51,31 +49,32 @@ impl CallWords {
     }
 }
 
-/// The filesystems that the next word of a call meets, after so many; `None` if no word is left, or if its step fails.
-pub fn next_word<L: LookOver>(
+/// For each word of a call, the filesystems that it meets. The last is not among them if its step fails: the call's last
+/// turn walks it.
+pub fn call_words<L: LookOver>(
     alloc: Global,
     world: &L,
     who: &Task,
     call: &Call<'_>,
-    walked: u64,
-) -> Result<Option<Vec<FilesystemId>>, AllocError>
-    ensures { IfOk result (λ met. option_map met_of met
+) -> Result<Steps, AllocError>
+    ensures { IfOk result (λ words. (walked : ℕ) → slice_get (words_in words) walked
         ≡ met_next (routes nat_eq (L.looks world.now) (task_of who.now) (call_of call.now)) walked) }
 {
-    let mut words = words_of(alloc, routes(alloc, world, who, call)?)?;
-    Ok(words.next(walked))
+    let words = words_of(alloc, routes(alloc, world, who, call)?)?;
+    Ok(words.that_go_on())
 }
 
 impl CallWords {
-    // What the next word meets, if it is one that goes on.
-    fn next(mut self, walked: u64) -> Option<Vec<FilesystemId>>
-        ensures { option_map met_of result ≡ (if self.fails && length (words_in self.steps) == walked + 1
+    // The words but one whose step fails.
+    fn that_go_on(mut self) -> Steps
+        ensures { (walked : ℕ) → slice_get (words_in result) walked
+            ≡ (if self.fails && length (words_in self.steps) == walked + 1
             then None else slice_get (words_in self.steps) walked) }
     {
-        let count = self.steps.len() as u64;
-        if walked >= count || (self.fails && walked + 1 == count) {
-            return None;
+        if self.fails {
+            let count = self.steps.len();
+            self.steps.truncate(count.saturating_sub(1));
         }
-        Some(self.steps.swap_remove(walked as usize))
+        self.steps
     }
 }

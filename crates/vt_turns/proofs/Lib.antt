@@ -1,7 +1,10 @@
 pub mod CallTurns
 pub mod Holding
+pub mod KeptWords
 pub mod Mapped
+pub mod NextWords
 pub mod PlayedTurns
 pub mod Restarts
 pub mod SchedTurns
 pub mod StateTurns
+pub mod TakenAway

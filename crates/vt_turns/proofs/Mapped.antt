@@ -1,13 +1,14 @@
 -- Tests on what items mean.
-use Rattle.std.proofs.Common.{◌≡◌, refl, ap, ℕ, Bool, true, false, cond, not, ◌||◌, List, [], ◌∷◌, map, filter, find, Some, option_map}
+use Rattle.std.proofs.Common.{◌≡◌, refl, ap, ℕ, Bool, true, false, cond, ◌||◌, List, [], ◌∷◌, map, filter, find, Some, option_map}
 use Rattle.std.specs.List.{list_any}
 use Rattle.vt_spec.specs.Language.Calls.{TaskName, same_name}
 use Rattle.vt_spec.specs.Machine.Turns.{without_progress}
 use Rattle.vt_spec.specs.Machine.World.{World}
 use Rattle.vt_location.specs.declared.numbers.FilesystemId.{FilesystemId}
 use Rattle.vt_turns.specs.Going.{found_under_way, is_any_stale}
-use Rattle.vt_turns.specs.ProgressValue.{held_meant, is_stale_in, progress_meant}
-use Rattle.vt_turns.specs.declared.progress.Progress.{Progress}
+use Rattle.vt_turns.specs.Kept.{others, progress_of}
+use Rattle.vt_turns.specs.ProgressValue.{held_meant, is_stale_in}
+use Rattle.vt_turns.specs.declared.progress.UnderWay.{UnderWay}
 
 module _ {A B : Type 0} (meaning : A → B) (test : B → Bool) where
   pub any_meant : (list : List A) → list_any test (map meaning list) ≡ list_any (λ a. test (meaning a)) list
@@ -40,12 +41,11 @@ pub any_stale : (world : World ℕ) (held : List (FilesystemId × ℕ)) → is_a
     ≡ list_any (is_stale_in world) held
 any_stale world held = any_meant held_meant _ held
 
-pub found_meant : (name : TaskName) (under_way : List Progress)
-    → found_under_way (map progress_meant under_way) name
-    ≡ option_map progress_meant (find (λ progress. same_name name progress.task) under_way)
-found_meant name under_way = find_meant progress_meant _ under_way
+pub found_meant : (name : TaskName) (under_way : List UnderWay)
+    → found_under_way (map progress_of under_way) name
+    ≡ option_map progress_of (find (λ (held : UnderWay). same_name name held.progress.task) under_way)
+found_meant name under_way = find_meant progress_of _ under_way
 
-pub dropped_meant : (name : TaskName) (under_way : List Progress)
-    → without_progress name (map progress_meant under_way)
-    ≡ map progress_meant (filter (λ progress. not (same_name name progress.task)) under_way)
-dropped_meant name under_way = filter_meant progress_meant _ under_way
+pub dropped_meant : (name : TaskName) (under_way : List UnderWay)
+    → without_progress name (map progress_of under_way) ≡ map progress_of (others name under_way)
+dropped_meant name under_way = filter_meant progress_of _ under_way

@@ -3,7 +3,7 @@ use Rattle.std.proofs.Common.{append-nil, append_assoc, sym, subst, ◌∙◌, a
 use Rattle.vt_spec.proofs.Common.{Reply, Who, World}
 use Rattle.vt_turns.specs.Ends.{IsReady}
 use Rattle.vt_turns.specs.Turned.{AreRunWhole, IsPlayedBy, PlaysAs}
-use Rattle.vt_turns.specs.declared.sched.Sched.{Sched as SchedCode}
+use Rattle.vt_turns.specs.SchedValue.{Sched as SchedCode}
 use Rattle.vt_turns.proofs.SchedTurns.{nothing_played, played_on, run_whole_so}
 
 module _ {C : Type 0} (seen : C → World ℕ) (old : SchedCode C) where

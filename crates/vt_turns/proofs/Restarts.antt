@@ -1,16 +1,15 @@
 -- Turns that are played restart no call more than three times.
 use Rattle.std.proofs.Common.{◌≡◌, refl, sym, ap, subst, ◌∙◌, ℕ, nat_eq, true, List, [], ◌∷◌, ◌++◌, ◌≤◌, arith, Contains, length}
 use Rattle.std.proofs.lemmas.List.{length-append}
-use Rattle.vt_spec.proofs.Common.{Progress, Queue, Reply, Sched, Someone, TaskName, Who, World, queue_of, turn}
+use Rattle.vt_spec.proofs.Common.{Progress, Queue, Reply, Sched, Someone, Who, World, queue_of, turn}
 use Rattle.vt_laws_turns.proofs.restarts.Counting.{at_most_three_restarts}
 use Rattle.vt_laws_turns.proofs.restarts.Keeping.{turns_keep_schedulers}
 use Rattle.vt_laws_turns.proofs.same_states.PlaysAlike.{played_turns_are_whole_calls}
 use Rattle.vt_laws_turns.specs.Commits.{Turn, commits, items_of, left_by}
 use Rattle.vt_laws_turns.specs.Restarts.{IsSched, all_under_way_of, has_call_first}
 use Rattle.vt_queues.specs.QueuesValue.{queues_meant}
-use Rattle.vt_turns.specs.SchedValue.{sched_meant}
+use Rattle.vt_turns.specs.SchedValue.{Sched as SchedCode, sched_meant}
 use Rattle.vt_turns.specs.Turned.{IsPlayedBy, RestartsFew}
-use Rattle.vt_turns.specs.declared.sched.Sched.{Sched as SchedCode}
 
 -- turns keep the conditions of a scheduler's state
 turns_keep : (sched : Sched ℕ) (turns : List Turn) → IsSched sched → IsSched (left_by sched turns)

@@ -17,10 +17,9 @@ use Rattle.vt_queues.specs.QueuesValue.{queues_meant, who_meant}
 use Rattle.vt_queues.specs.declared.item.Who.{Who as WhoCode}
 use Rattle.vt_queues.specs.declared.queues.Queues.{Queues}
 use Rattle.vt_turns.specs.Ends.{IsReady}
-use Rattle.vt_turns.specs.SchedValue.{reply_meant, sched_at, sched_meant}
+use Rattle.vt_turns.specs.SchedValue.{Sched as SchedCode, reply_meant, sched_at, sched_meant}
 use Rattle.vt_turns.specs.Turned.{AreRunWhole, IsHanded, IsPlayedBy, PlaysAs, Turns, TurnsAndKeeps, TurnsAs, allocates, answered, first_allocates, queues_after, supply}
 use Rattle.vt_turns.specs.declared.sched.Reply.{Reply as ReplyCode}
-use Rattle.vt_turns.specs.declared.sched.Sched.{Sched as SchedCode}
 use Rattle.vt_turns.specs.declared.state.State.{State}
 use Rattle.vt_turns.proofs.StateTurns.{dated_itself}
 
@@ -87,6 +86,27 @@ module _ {C : Type 0} (seen : C → World ℕ) (old : SchedCode C) (who : Who) w
         world = subst (λ (t : Turned ℕ). SameDated t.sched.world (seen state.world)) (sym is) turned.world;
         ready = turns.ready;
       }
+
+-- So are turns of a scheduler whose parts are seen.
+module _ {C : Type 0} (seen : C → World ℕ) (who : Who) (queues : Queues) (state : State C) (old : SchedCode C)
+    (is : record { queues = queues; state = state } ≡ old) where
+  pub idle_seen : IsReady (seen old.state.world) → first_of_list (queue_of (queues_meant queues) who) ≡ None
+      → TurnsAs seen old who None old
+  idle_seen ready none = idle_turn seen old who ready
+      (ap (λ (s : SchedCode C). first_of_list (queue_of (queues_meant s.queues) who)) (sym is) ∙ none)
+
+  pub turn_seen : IsReady (seen old.state.world) → (queued : Queued)
+      → first_of_list (queue_of (queues_meant queues) who) ≡ Some queued → (answer : Option (Result Answer Deny))
+      (after : State C) (left : Queues)
+      → (IsReady (seen state.world) → Turns seen (λ waiting number fresh. item_turn nat_eq (sched_at seen state waiting) who
+      number queued.item fresh) (allocates who queued.item) who state answer after)
+      → queues_meant left ≡ queues_after who answer (queues_meant queues)
+      → TurnsAs seen old who (answered queued.line answer) (record { queues = left; state = after })
+  turn_seen ready queued there answer after left turns shorter =
+      subst (λ (s : SchedCode C). IsReady (seen s.state.world)
+      → TurnsAs seen s who (answered queued.line answer) (record { queues = left; state = after })) is
+      (λ now. turn_of_item seen (record { queues = queues; state = state }) who queued there answer after left (turns now)
+      shorter) ready
 
 -- a schedule up to the next place
 longer : (schedule : List WhoCode) (place : ℕ) (one : WhoCode) → place < length schedule

@@ -1,5 +1,5 @@
 -- The turns of a world and the calls under way in it.
-use Rattle.std.proofs.Common.{length, nat_le, not, ◌&&◌, ◌≡◌, refl, sym, ap, subst, ◌∙◌, ◌⊎◌, inl, inr, ℕ, nat_eq, Bool, true, false, true≢false, List, Option, Some, None, Ok, Err, Result, is_some}
+use Rattle.std.proofs.Common.{length, map, nat_le, not, ◌&&◌, ◌≡◌, refl, sym, ap, subst, ◌∙◌, ◌⊎◌, inl, inr, ℕ, nat_eq, Bool, true, false, true≢false, List, Option, Some, None, Ok, Err, Result, is_some}
 use Rattle.vt_spec.specs.declared.errors.Deny.{Deny}
 use Rattle.vt_spec.specs.declared.errors.Rule.TheVariants.{S2, S5}
 use Rattle.vt_spec.proofs.Common.{Asks, Call, Calls, Directive, Fresh, Item, Nobody, Progress, Queue, Refused, Reply, Someone, TaskName, Turned, Who, World, call_turn, denial, directed, item_turn, policy}
@@ -15,14 +15,17 @@ use Rattle.vt_request.specs.Answers.{result_of}
 use Rattle.vt_answers.specs.Ends.{Directs, MayBeRefusedMemory}
 use Rattle.vt_turns.specs.Ends.{EndsDated, IsReady}
 use Rattle.vt_turns.specs.Going.{left_under_way, walked_in}
+use Rattle.vt_turns.specs.Kept.{AllKeepWords, Walks, calls_without, others, progress_of}
 use Rattle.vt_turns.specs.SchedValue.{sched_at, under_way_meant}
-use Rattle.vt_turns.specs.Turned.{IsTurned, Turns, allocates}
+use Rattle.vt_turns.specs.Turned.{IsTurned, RunsWhole, Turns, allocates}
 use Rattle.vt_spec.specs.Language.Limits.{longest_line}
 use Rattle.vt_spec.specs.Language.Script.{is_silent}
 use Rattle.vt_queues.specs.QueuesValue.{call_in, called}
 use Rattle.vt_queues.specs.declared.call_line.CallLine.{CallLine}
 use Rattle.vt_turns.specs.declared.state.State.{State}
 use Rattle.vt_turns.proofs.CallTurns.{call_turn_is, turned_by}
+use Rattle.vt_turns.proofs.KeptWords.{others_keep}
+use Rattle.vt_turns.proofs.Mapped.{dropped_meant}
 
 -- the reply to a line
 abbrev replied_by : ℕ → Result AnswerMeant Deny → Option Reply
@@ -37,12 +40,30 @@ dated_itself world = record {
   change = refl;
 }
 
+-- a line that asks for a call has one
+three_hold : (a b c : Bool) → (a && b && c) ≡ true → c ≡ true
+three_hold true true c holds = holds
+three_hold true false c holds = absurd (true≢false (sym holds))
+three_hold false b c holds = absurd (true≢false (sym holds))
+
+pub asks_for_one : (line : CallLine) → is_some (call_in line) ≡ true
+asks_for_one line = three_hold (nat_le (length line.text.items) longest_line) (not (is_silent line.text.items))
+    (is_some (call_in line)) line.asks
+
+with_call : {P : Type 0} (asked : Option Call) → is_some asked ≡ true → ((call : Call) → asked ≡ Some call → P) → P
+with_call None there next = absurd (true≢false (sym there))
+with_call (Some call) there next = next call refl
+
 module _ {C : Type 0} (seen : C → World ℕ) (old : State C) (ready : IsReady (seen old.world)) where
   still : (now : C) → now ≡ old.world → SameDated (seen old.world) (seen now)
   still now same = subst (λ w. SameDated (seen old.world) (seen w)) (sym same) (dated_itself (seen old.world))
 
   still_ready : (now : C) → now ≡ old.world → IsReady (seen now)
   still_ready now same = subst (λ w. IsReady (seen w)) (sym same) ready
+
+  left_meant : (name : TaskName) (new : State C) → new.under_way.items ≡ others name old.under_way.items
+      → under_way_meant new ≡ without_progress name (under_way_meant old)
+  left_meant name new left = ap (map progress_of) left ∙ sym (dropped_meant name old.under_way.items)
 
   -- A call's turn
   module _ (name : TaskName) (call : Call) (new : State C) where
@@ -209,13 +230,42 @@ module _ {C : Type 0} (seen : C → World ℕ) (old : State C) (ready : IsReady 
   line_turns name asked call is answer new turns =
       subst (λ a. LineTurns name a answer new) (sym is) turns
 
-  -- an allocation failed as it was read
-  pub line_is_refused_memory : (name : TaskName) (asked : Option Call) → is_some asked ≡ true → (new : State C)
-      → new.world ≡ old.world → under_way_meant new ≡ without_progress name (under_way_meant old) → (deny : Deny)
-      → deny ≡ denial S5 → LineTurns name asked (Some (Err deny)) new
-  line_is_refused_memory name None there new same left deny is = absurd (true≢false (sym there))
-  line_is_refused_memory name (Some call) there new same left deny is =
-      is_refused_memory name call new same left deny is
+  -- The turn of a task's line, by what is left of its call: it goes on,
+  module _ (name : TaskName) (line : CallLine) (calls : TaskName → Option Call) (first : calls name ≡ call_in line)
+      (between : State C) (same : between.world ≡ old.world) (goes_on : Bool)
+      (walks : (call : Call) → call_in line ≡ Some call → calls name ≡ Some call
+      → Walks (seen old.world) name call calls old.under_way.items goes_on between.under_way.items) where
+    pub line_goes_on : goes_on ≡ true → LineTurns name (call_in line) None between
+    line_goes_on goes = with_call (call_in line) (asks_for_one line) (λ call asked.
+        let w = walks call asked (first ∙ asked) in
+        line_turns name (call_in line) call asked None between
+        (goes_on_later name call between same (sym w.going ∙ goes) w.under_way))
+
+    -- or is run whole.
+    pub line_is_run : goes_on ≡ false → between.under_way.items ≡ others name old.under_way.items
+        → (result : Result Answer Deny) (new : State C)
+        → ((call : Call) → call_in line ≡ Some call → RunsWhole seen between.world name call result new.world)
+        → map progress_of new.under_way.items ≡ map progress_of between.under_way.items
+        → LineTurns name (call_in line) (Some result) new
+    line_is_run over left result new ends meant = with_call (call_in line) (asks_for_one line) (λ call asked.
+        by call asked (walks call asked (first ∙ asked)) (ends call asked))
+      where
+        by : (call : Call) → call_in line ≡ Some call
+            → Walks (seen old.world) name call calls old.under_way.items goes_on between.under_way.items
+            → RunsWhole seen between.world name call result new.world → LineTurns name (call_in line) (Some result) new
+        by call asked w (inl ends) = line_turns name (call_in line) call asked (Some result) new
+            (is_run_whole name call new between.world same result ends (sym w.going ∙ over) (meant ∙ w.under_way))
+        by call asked w (inr memory) = subst (λ (r : Result Answer Deny). LineTurns name (call_in line) (Some r) new)
+            (sym memory.0) (line_turns name (call_in line) call asked (Some (Err (denial S5))) new
+            (is_refused_memory name call new (memory.1 ∙ same) (meant ∙ left_meant name between left) (denial S5) refl))
+
+  -- an allocation failed
+  pub line_is_refused : (name : TaskName) (line : CallLine) (new : State C) → new.world ≡ old.world
+      → new.under_way.items ≡ others name old.under_way.items → (deny : Deny) → deny ≡ denial S5
+      → LineTurns name (call_in line) (Some (Err deny)) new
+  line_is_refused name line new same left deny is = with_call (call_in line) (asks_for_one line) (λ call asked.
+      line_turns name (call_in line) call asked (Some (Err deny)) new
+      (is_refused_memory name call new same (left_meant name new left) deny is))
 
   -- a directive
   directive_so : (who : Who) (directive : Directive) (result : Result Answer Deny)
@@ -264,12 +314,23 @@ module _ {C : Type 0} (seen : C → World ℕ) (old : State C) (ready : IsReady 
   directive_turns who item directive is result told =
       subst (λ i. Answers who i result) (sym is) (directive_so who directive result told)
 
--- a line that asks for a call has one
-three_hold : (a b c : Bool) → (a && b && c) ≡ true → c ≡ true
-three_hold true true c holds = holds
-three_hold true false c holds = absurd (true≢false (sym holds))
-three_hold false b c holds = absurd (true≢false (sym holds))
+-- Words that are kept of calls, after a turn of a task's line
 
-pub asks_for_one : (line : CallLine) → is_some (call_in line) ≡ true
-asks_for_one line = three_hold (nat_le (length line.text.items) longest_line) (not (is_silent line.text.items))
-    (is_some (call_in line)) line.asks
+module _ {C : Type 0} (seen : C → World ℕ) (old : State C) (name : TaskName) (line : CallLine)
+    (calls : TaskName → Option Call) (first : calls name ≡ call_in line)
+    (keep : AllKeepWords (seen old.world) calls old.under_way.items) (between : State C)
+    (same : between.world ≡ old.world) where
+  -- it goes on,
+  pub going_keeps : {goes_on : Bool}
+      → ((call : Call) → call_in line ≡ Some call → calls name ≡ Some call
+      → Walks (seen old.world) name call calls old.under_way.items goes_on between.under_way.items)
+      → AllKeepWords (seen between.world) calls between.under_way.items
+  going_keeps walks = with_call (call_in line) (asks_for_one line) (λ call asked.
+      subst (λ (w : C). AllKeepWords (seen w) calls between.under_way.items) (sym same)
+      (walks call asked (first ∙ asked)).words)
+
+  -- or ends
+  pub ending_keeps : between.under_way.items ≡ others name old.under_way.items
+      → AllKeepWords (seen between.world) (calls_without name calls) between.under_way.items
+  ending_keeps left = subst (λ (w : C). AllKeepWords (seen w) (calls_without name calls) between.under_way.items) (sym same)
+      (others_keep (seen old.world) name calls old.under_way.items between.under_way.items left keep)

@@ -1,5 +1,5 @@
 -- What a turn leaves of a call, in terms of the change numbers of its task and namespace (profile).
-use Rattle.std.specs.Prelude.{Bool, List, None, Ok, Option, Some, [], find, if◌then◌else◌, is_ok, nat_eq, nat_le, option_map, option_to_list, slice_get, ℕ, ◌++◌, ◌+◌, ◌||◌}
+use Rattle.std.specs.Prelude.{Bool, List, None, Ok, Option, Some, [], find, if◌then◌else◌, is_ok, nat_eq, nat_le, option_map, option_to_list, slice_get, ℕ, ◌++◌, ◌+◌, ◌||◌, ◌≡◌}
 use Rattle.std.specs.List.{list_any}
 use Rattle.vt_spec.specs.Errors.{unless}
 use Rattle.vt_spec.specs.Language.Calls.{Call, TaskName, same_name}
@@ -33,6 +33,10 @@ met_on ways walked = if is_failing ways walked then None else slice_get (words_o
 abbrev pub next_met : World ℕ → TaskName → Call → ℕ → Option (List ℕ)
 next_met world name call walked =
     then_some (task_called world name) (λ task. met_on (routes nat_eq (looks_of nat_eq world) task call) walked)
+
+-- What the words of a call meet, as turns walk them, the first one first: but for one whose step fails.
+abbrev pub AreWords : World ℕ → TaskName → Call → List (List ℕ) → Type 0
+AreWords world name call words = (walked : ℕ) → slice_get words walked ≡ next_met world name call walked
 
 -- a call before its first word
 abbrev pub begun : TaskName → Numbers → ℕ → Progress ℕ
@@ -88,11 +92,13 @@ gone_on_in world call name numbers (Some progress) =
 abbrev pub found_under_way : List (Progress ℕ) → TaskName → Option (Progress ℕ)
 found_under_way under_way name = find (λ progress. same_name name progress.task) under_way
 
--- what a turn of a task leaves of its call; nothing, where there is no such task
+-- What a turn of a task leaves of its call, by what was walked of it; nothing, where there is no such task,
+abbrev pub walked_by : World ℕ → TaskName → Call → Option (Progress ℕ) → Option (Progress ℕ)
+walked_by world name call held = then_some (numbers_in world name) (λ numbers. gone_on_in world call name numbers held)
+
+-- and so where these calls are under way.
 abbrev pub walked_in : World ℕ → TaskName → Call → List (Progress ℕ) → Option (Progress ℕ)
-walked_in world name call under_way =
-    then_some (numbers_in world name)
-    (λ numbers. gone_on_in world call name numbers (found_under_way under_way name))
+walked_in world name call under_way = walked_by world name call (found_under_way under_way name)
 
 -- the calls under way after it
 abbrev pub left_under_way : TaskName → Option (Progress ℕ) → List (Progress ℕ) → List (Progress ℕ)

@@ -1,5 +1,6 @@
 pub mod Ends
 pub mod Going
+pub mod Kept
 pub mod ProgressValue
 pub mod SchedValue
 pub mod Turned

@@ -11,6 +11,10 @@ use Rattle.vt_turns.specs.declared.progress.Progress.{Progress}
 abbrev pub met_meant : Vec FilesystemId → List ℕ
 met_meant met = map filesystem_number met.items
 
+-- those that each word of a call met
+abbrev pub words_meant : Vec (Vec FilesystemId) → List (List ℕ)
+words_meant words = map met_meant words.items
+
 -- the change number of a filesystem that is held
 abbrev pub held_meant : FilesystemId × ℕ → ℕ × ℕ
 held_meant held = (filesystem_number held.0, held.1)

@@ -1,7 +1,9 @@
 -- The turns of code, as the definitions have them.
-use Rattle.std.specs.Prelude.{Bool, List, None, Option, Result, Some, [], false, if◌then◌else◌, is_some, map, nat_eq, option_map, option_to_list, true, ℕ, ◌++◌, ◌∷◌, ◌≡◌, ◌≤◌}
+use Rattle.std.specs.Prelude.{Bool, Err, List, None, Option, Result, Some, [], false, if◌then◌else◌, is_some, map, nat_eq, option_map, option_to_list, true, ℕ, ◌++◌, ◌∷◌, ◌≡◌, ◌≤◌, ◌⊎◌}
 use Rattle.vt_spec.specs.declared.errors.Deny.{Deny}
-use Rattle.vt_spec.specs.Language.Calls.{TaskName}
+use Rattle.vt_spec.specs.declared.errors.Rule.TheVariants.{S5}
+use Rattle.vt_spec.specs.Errors.{denial}
+use Rattle.vt_spec.specs.Language.Calls.{Call, TaskName}
 use Rattle.vt_spec.specs.Language.Calls.Directive.{AskPeers, AskSealed}
 use Rattle.vt_spec.specs.Language.Limits.{most_restarts}
 use Rattle.vt_spec.specs.Language.Script.{Who}
@@ -20,11 +22,10 @@ use Rattle.vt_laws_turns.specs.SameStates.{AreWholeCalls, IsPlayed}
 use Rattle.vt_request.specs.declared.answer.Answer.{Answer}
 use Rattle.vt_request.specs.Answers.{result_of}
 use Rattle.vt_queues.specs.QueuesValue.{queues_meant}
-use Rattle.vt_turns.specs.declared.sched.Sched.{Sched}
 use Rattle.vt_turns.specs.declared.state.State.{State}
 use Rattle.vt_turns.specs.declared.sched.Reply.{Reply as ReplyCode}
-use Rattle.vt_turns.specs.Ends.{IsReady}
-use Rattle.vt_turns.specs.SchedValue.{reply_meant, sched_meant, under_way_meant}
+use Rattle.vt_turns.specs.Ends.{EndsDated, IsReady}
+use Rattle.vt_turns.specs.SchedValue.{Sched, reply_meant, sched_meant, under_way_meant}
 
 -- an allocation may fail in it: a call of a task, or a directive that makes a list
 abbrev pub allocates : Who → Item → Bool
@@ -52,6 +53,11 @@ queues_after who answer queues = if is_some answer then map (shortened who) queu
 
 -- Of code's worlds, each of which the definitions see so
 module _ {C : Type 0} (seen : C → World ℕ) where
+  -- a call is run whole, or was refused memory as it was read
+  abbrev pub RunsWhole : C → TaskName → Call → Result Answer Deny → C → Type 0
+  RunsWhole old name call result new =
+      EndsDated seen old name call result new ⊎ ((result ≡ Err (denial S5)) × (new ≡ old))
+
   -- a turn replies to this line of these queues by this answer, or not, and leaves this state
   pub record IsTurned (turned : Turned ℕ) (who : Who) (queues : List Queue) (line : ℕ)
       (answer : Option (Result Answer Deny)) (new : State C) : Type 0 where

@@ -29,6 +29,16 @@ pub(crate) struct Progress {
     pub(crate) filesystems: Vec<(FilesystemId, u64)>,
 }
 
+/// For each word of a call, the filesystems that it meets.
+pub(crate) type Words = Vec<Vec<FilesystemId>>;
+
+// A call under way, and its words, where they are known: in the world as it is now.
+#[derive(Debug, Drop)]
+pub(crate) struct UnderWay {
+    pub(crate) progress: Progress,
+    pub(crate) words: Option<Words>,
+}
+
 // Whether a change number that is held has another value now, or can rise no more.
 fn is_stale(held: u64, now: u64) -> bool
     ensures { result ≡ is_stale held now }
@@ -114,18 +124,5 @@ impl Progress {
         }
         self.walked += 1;
         Ok(self)
-    }
-
-    // The same, held once more.
-    pub(crate) fn copied(&self, alloc: Global) -> Result<Progress, AllocError>
-        ensures { IfOk result (λ made. progress_meant made ≡ progress_meant self.now) }
-    {
-        Ok(Progress {
-            task: self.task.clone()?,
-            walked: self.walked,
-            restarts: self.restarts,
-            numbers: self.numbers,
-            filesystems: Vec::from_slice(alloc, &self.filesystems)?,
-        })
     }
 }

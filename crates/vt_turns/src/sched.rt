@@ -13,6 +13,7 @@ ghost use Rattle.vt_turns.specs.Turned.{AreRunWhole, PlaysAs, RestartsFew, Turns
 
 use crate::state::State;
 use crate::world::TakesTurns;
+use std::marker::Model;
 use vt_queues::{Queues, Who};
 use vt_request::{Answer, TaskName};
 use vt_spec::errors::Deny;
@@ -26,9 +27,23 @@ pub struct Reply {
 
 /// A world in which calls are made in turns.
 #[derive(Drop)]
-pub struct Sched<C> {
+pub struct Sched<C: TakesTurns> {
     queues: Queues,
     state: State<C>,
+}
+
+impl<C: TakesTurns> Model for Sched<C> {
+    ghost use Rattle.vt_turns.specs.SchedValue.{Sched};
+
+    ghost Value = { Sched C };
+
+    ghost view = { λ sched. record { queues = sched.queues; state = sched.state } };
+
+    ghost use Rattle.vt_queues.specs.QueuesValue.{queues_meant};
+    ghost use Rattle.vt_turns.specs.Kept.{AllKeepWords, first_call};
+
+    ghost invariant = { λ sched. AllKeepWords (C.world sched.state.world) (first_call (queues_meant sched.queues))
+        sched.state.under_way.items };
 }
 
 impl<C: TakesTurns> Sched<C> {

@@ -1,5 +1,5 @@
 //! The trait `TakesTurns`.
-ghost use Rattle.std.specs.Prelude.{◌≡◌, IfErr, IfOk, ℕ, nat_eq, option_map};
+ghost use Rattle.std.specs.Prelude.{◌≡◌, IfErr, IfOk, ℕ, nat_eq};
 ghost use Rattle.vt_spec.specs.declared.errors.Rule.TheVariants.{S5};
 ghost use Rattle.vt_spec.specs.Errors.{denial};
 ghost use Rattle.vt_spec.specs.Machine.Turns.{filesystem_change_of};
@@ -10,8 +10,8 @@ ghost use Rattle.vt_answers.specs.Counters.{Counters, CountsFew, opening_counter
 ghost use Rattle.vt_answers.specs.Ends.{Directs};
 ghost use Rattle.vt_answers.specs.Numbers.{IsOpened};
 ghost use Rattle.vt_turns.specs.Ends.{EndsDated, IsReady};
-ghost use Rattle.vt_turns.specs.Going.{call_begins, next_met, numbers_in};
-ghost use Rattle.vt_turns.specs.ProgressValue.{met_meant};
+ghost use Rattle.vt_turns.specs.Going.{AreWords, call_begins, numbers_in};
+ghost use Rattle.vt_turns.specs.ProgressValue.{words_meant};
 
 use crate::progress::Numbers;
 use std::alloc::{AllocError, Global};
@@ -65,16 +65,10 @@ pub trait TakesTurns {
     fn may_begin(&self, name: &TaskName, call: &Call<'_>) -> bool
         ensures { result ≡ call_begins (world self.now) name.now (call_of call.now) };
 
-    /// The filesystems that the next word of a task's call meets, after so many; `None` if no word is left, if its step
-    /// fails, or if there is no such task.
-    fn next_word(
-        &self,
-        name: &TaskName,
-        call: &Call<'_>,
-        walked: u64,
-    ) -> Result<Option<Vec<FilesystemId>>, AllocError>
-        ensures { IfOk result (λ met. option_map met_meant met
-            ≡ next_met (world self.now) name.now (call_of call.now) walked) };
+    /// For each word of a task's call, the filesystems that it meets. The last is not among them if its step fails: the
+    /// call's last turn walks it. There are none where there is no such task.
+    fn words(&self, name: &TaskName, call: &Call<'_>) -> Result<Vec<Vec<FilesystemId>>, AllocError>
+        ensures { IfOk result (λ words. AreWords (world self.now) name.now (call_of call.now) (words_meant words)) };
 
     /// Frees the world.
     fn end(self);

@@ -5,7 +5,7 @@ use vt_changes::Dated;
 use vt_location::FilesystemId;
 use vt_request::{Answer, Call, Directive, TaskName};
 use vt_spec::errors::Deny;
-use vt_steps::{may_begin, next_word};
+use vt_steps::{call_words, may_begin};
 use vt_turns::{Numbers, TakesTurns};
 
 /// A kernel with its change numbers, whose tasks make calls in turns: their walks go word by word.
@@ -55,16 +55,15 @@ impl TakesTurns for TurnKernel {
         }
     }
 
-    fn next_word(
+    fn words(
         &self,
         name: &TaskName,
         call: &Call<'_>,
-        walked: u64,
-    ) -> Result<Option<Vec<FilesystemId>>, AllocError> {
+    ) -> Result<Vec<Vec<FilesystemId>>, AllocError> {
         let world = self.dated.world();
         match world.task(name) {
-            Some(who) => next_word(world.alloc(), world, who, call, walked),
-            None => Ok(None),
+            Some(who) => call_words(world.alloc(), world, who, call),
+            None => Ok(Vec::new(world.alloc())),
         }
     }
 

@@ -13,10 +13,9 @@ use Rattle.vt_queues.specs.QueuesValue.{who_meant}
 use Rattle.vt_queues.specs.declared.item.Who.{Who as WhoCode}
 use Rattle.vt_request.specs.Answers.{result_of}
 use Rattle.vt_turns.specs.Ends.{IsReady}
-use Rattle.vt_turns.specs.SchedValue.{reply_meant, sched_meant}
+use Rattle.vt_turns.specs.SchedValue.{Sched as SchedCode, reply_meant, sched_meant}
 use Rattle.vt_turns.specs.Turned.{PlaysAs}
 use Rattle.vt_turns.specs.declared.sched.Reply.{Reply as ReplyCode}
-use Rattle.vt_turns.specs.declared.sched.Sched.{Sched as SchedCode}
 use Rattle.vt_turns.proofs.PlayedTurns.{plays_are_played}
 use Rattle.vt_turns.proofs.Restarts.{restarts_few}
 use Rattle.vt_turns.proofs.SchedTurns.{plays_on, run_whole_so}

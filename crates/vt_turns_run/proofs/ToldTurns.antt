@@ -12,9 +12,8 @@ use Rattle.vt_laws_turns.specs.SameStates.{SameSched}
 use Rattle.vt_laws_schedules.proofs.one_text.SchedulesTold.{every_programs_schedule_has_one_text}
 use Rattle.vt_laws_schedules.specs.OneText.{TellsTurns, opening_sched, turn_may_fail}
 use Rattle.vt_turns.specs.Ends.{IsReady}
-use Rattle.vt_turns.specs.SchedValue.{sched_meant}
+use Rattle.vt_turns.specs.SchedValue.{Sched as SchedCode, sched_meant}
 use Rattle.vt_turns.specs.Turned.{IsHanded, PlaysAs, allocates, supply}
-use Rattle.vt_turns.specs.declared.sched.Sched.{Sched as SchedCode}
 use Rattle.vt_turns_run.specs.Played.{IsPlayed, IsTextOfTurns}
 
 abbrev Tells : Sched ℕ → List (List ℕ) → List Bool → List ℕ → Type 0

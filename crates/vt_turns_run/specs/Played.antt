@@ -10,10 +10,9 @@ use Rattle.vt_io.specs.declared.output.Sink.{Ghosts}
 use Rattle.vt_queues.specs.QueuesValue.{who_meant}
 use Rattle.vt_queues.specs.declared.item.Who.{Who as WhoCode}
 use Rattle.vt_turns.specs.Ends.{IsReady}
-use Rattle.vt_turns.specs.SchedValue.{sched_meant}
+use Rattle.vt_turns.specs.SchedValue.{Sched, sched_meant}
 use Rattle.vt_turns.specs.Turned.{AreRunWhole, PlaysAs, RestartsFew, TurnsAndKeeps, allocates}
 use Rattle.vt_turns.specs.declared.sched.Reply.{Reply as ReplyCode}
-use Rattle.vt_turns.specs.declared.sched.Sched.{Sched}
 
 -- the turns that the lines of a schedule give, in order: a line of another form gives none
 abbrev pub turns_of : List ℕ → List Who
