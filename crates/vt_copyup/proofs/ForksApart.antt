@@ -1,5 +1,5 @@
 -- Copies that two plans do not share are of different nodes.
-use Rattle.std.proofs.Common.{◌≡◌, ◌∙◌, ◌∷◌, ◌++◌, ap, List, subst, sym, true, ℕ}
+use Rattle.std.proofs.Common.{◌≡◌, ◌∙◌, ◌∷◌, ◌++◌, ap, subst, sym, ℕ}
 use Rattle.vt_spec.proofs.Common.{FileTree, Stack}
 use Rattle.vt_location.specs.Locations.{inode_of}
 use Rattle.vt_fs.specs.FilesystemsValue.{files_at}

@@ -35,7 +35,7 @@ use Rattle.vt_copyup.proofs.ForksMade.{names_both}
 use Rattle.vt_copyup.proofs.ForksReady.{none_in, same_inode}
 use Rattle.vt_copyup.proofs.Grown.{not_eq}
 use Rattle.vt_copyup.proofs.Parted.{EndsAt, copies_back, parted}
-use Rattle.vt_copyup.proofs.Stepping.{last_number, last_number_is}
+use Rattle.vt_copyup.proofs.Stepping.{last_filesystem, last_number, last_number_is}
 
 abbrev names : List Copy → List (List ℕ)
 names copies = map (λ (copy : Copy). copy.name) copies
@@ -443,6 +443,44 @@ module _ (fresh : Fresh ℕ) (mounter : Credentials) (merge : Merge ℕ) (trees 
       (pieces_in fork.second)) ∙ ap (map (λ (copy : PlannedCopy). copy.node)) (sym are.last_are)
       ∙ map_twice (λ (copy : PlannedCopy). copy.node) (λ (one : Made). one.copy) last)
       last_handed
+
+  -- and the second path leads to the last of its copies
+  pub leads_to_last : is_some (number_at_path merge.files other) ≡ true
+      → led_above stack (copied_to odd stack copied other) other ≡ Some (inode_of (last_made start last))
+  leads_to_last some_other = ap (λ files. led_above stack (copied_to odd stack files other) other) (sym now_upper)
+      ∙ (prefixes_lead_to_copies odd stack now now_whole now_new other some_now).0 other [] (append-nil other)
+      ∙ ap (λ files. Some (unwrap_or (led_above stack files other) (odd (length other)))) now_upper
+      ∙ ap (λ p. Some (unwrap_or (led_above stack copied p) (odd (length p)))) (sym ends_at)
+      ∙ ap Some (prefix_so odd stack copied f then_all.copies last [] front start.slot begin then_all.planned
+      (then_all.same_names ∙ sym names_last ∙ ap made_names (sym (append-nil last)))
+      (subst (AreHanded odd f.count (length front)) (sym (append-nil last)) last_handed))
+      ∙ ap (λ (l : InodeRef). Some (inode_of (last_made l last))) start_is
+    where
+      some_now : is_some (number_at_path now.files other) ≡ true
+      some_now = ap (λ files. is_some (number_at_path files other))
+          (is_copied fresh whole new.distinct new.unused object object_there).files ∙ some_other
+
+      names_last : made_names last ≡ last_names
+      names_last = sym (map_twice (λ (copy : PlannedCopy). copy.name.items) (λ (one : Made). one.copy) last)
+          ∙ ap (map (λ (copy : PlannedCopy). copy.name.items)) are.last_are
+          ∙ map_twice (λ (copy : PlannedCopy). copy.name.items) (λ (piece : Piece). piece.copy) (pieces_in fork.second)
+
+      ends_at : front ++ made_names last ≡ other
+      ends_at = ap (λ l. front ++ l) names_last ∙ other_is
+
+      start_own : start.filesystem ≡ f
+      start_own = by (nat_eq (length fork.shared.pieces.items) 0)
+        where
+          by : (b : Bool) → (if b then fork.other else here).filesystem ≡ f
+          by true = ap (λ (l : InodeRef). l.filesystem) forked.other ∙ next.filesystem
+          by false = last_filesystem shared fork.directory ∙ first_own
+
+      start_is : record { filesystem = f; slot = start.slot } ≡ start
+      start_is = λ i. record { filesystem = sym start_own i; slot = start.slot }
+
+      begin : unwrap_or (led_above stack copied front) (odd (length front)) ≡ inode_number f.count start.slot
+      begin = ap (λ o. unwrap_or o (odd (length front))) start_led
+          ∙ ap (λ (id : FilesystemId). inode_number id.count start.slot) start_own
 
   both_copied : copied_to odd stack copied other ≡ with_fork merge.upper f.count fork shared made last
   both_copied = second_copied

@@ -8,7 +8,7 @@ use Rattle.vt_spec.specs.TreeInvariant.{IsDirectory}
 use Rattle.vt_copyup.specs.Plans.{EntriesAreThere}
 
 -- an entry more leads to its number, and each other one where one led before
-put_targets : (name : List ℕ) (number k : ℕ) → nat_eq k number ≡ false → (entries : Entries ℕ)
+pub put_targets : (name : List ℕ) (number k : ℕ) → nat_eq k number ≡ false → (entries : Entries ℕ)
     → is_among nat_eq k (map (λ x. x.1) (with_entry name number entries)) ≡ true
     → is_among nat_eq k (map (λ x. x.1) entries) ≡ true
 put_targets name number k other [] e = absurd (true≢false (sym e ∙ ap (λ b. b || false) other))

@@ -118,7 +118,7 @@ module _ (trees : Filesystems) (overlay : UpperOverlayValue) (Fits : Option (Nod
     node_above object = ap (λ o. then_some o (λ (layer : OpenLayer ℕ). layer.tree.node object))
         (slice_get-map (layer_of trees) overlay.layers.lowers 0 ∙ ap (option_map (layer_of trees)) first_is)
 
-    fit_shown : (o : Option (Shown ℕ)) → option_map seen_of (real_at overlay node) ≡ o
+    pub fit_shown : (o : Option (Shown ℕ)) → option_map seen_of (real_at overlay node) ≡ o
         → Fits (then_some o (layer_node layers))
     fit_shown o e = fits_kind (object_lent trees overlay node) (then_some o (layer_node layers))
         (lent_kind (option_map seen_of (real_at overlay node)) ∙ ap (λ o. is_directory_node

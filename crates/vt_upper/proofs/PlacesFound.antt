@@ -32,6 +32,7 @@ use Rattle.vt_upper.specs.declared.making.Spot.{Spot}
 use Rattle.vt_upper.specs.Leaving.{MayBeEmptied, NamesAreUsed}
 use Rattle.vt_upper.specs.New.{HasName, IsAbove, IsCopiedFrom, IsKnown, IsPlaceReady, MayBeFreed, MayMakeIn, MayPutIn, MayRemoveFrom, object_in}
 use Rattle.vt_upper.proofs.BornBelow.{at_its_path}
+use Rattle.vt_upper.proofs.CopiesBeside.{IsWhite}
 use Rattle.vt_upper.proofs.FitCopies.{fit_copies, shown_first}
 use Rattle.vt_upper.proofs.PlansOf.{AreSplit, count_is, is_first, split_layers}
 use Rattle.vt_upper_overlay.specs.MergedAbove.{number_at, object_lent, object_shown, upper_count}
@@ -73,12 +74,7 @@ module _ (count inodes : ℕ) where
       by None = refl
       by (Some entry) = refl
 
--- a whiteout is there, has no entries, and is no directory
-record IsWhite (node : Option (Node ℕ)) : Type 0 where
-  there : is_some node ≡ true
-  empty : entries_in node ≡ []
-  other : is_directory_node node ≡ false
-
+-- a whiteout
 white_so : (node : Option (Node ℕ)) → is_kind_in White node ≡ true → IsWhite node
 white_so None is = absurd (true≢false (sym is))
 white_so (Some node) is = by node.content is
@@ -88,7 +84,7 @@ white_so (Some node) is = by node.content is
     by (Directory parent entries opaque) is = absurd (true≢false (sym is))
     by (Regular bytes) is = absurd (true≢false (sym is))
     by (Symlink text) is = absurd (true≢false (sym is))
-    by Whiteout is = record { there = refl; empty = refl; other = refl }
+    by Whiteout is = record { there = refl; empty = refl; other = refl; kind = is }
 
 -- what is not shown
 when_none : (b : Bool) (seen : Shown ℕ) → when (not b) seen ≡ None → b ≡ true
@@ -129,6 +125,56 @@ copied_ok copies Holds (Ok (There spot)) is holds = absurd (true≢false (sym is
 copied_ok copies Holds (Ok (Copied plan room)) is holds =
     subst (λ (p : Plan). Holds (Copied p room)) (sym is.0) (holds room is.1)
 
+-- an object that needs no copies is in the upper layer
+module _ (trees : Filesystems) (overlay : UpperOverlayValue) (looked : IsLooked trees overlay) (node : NodeRef)
+    (node_small : IsSmall node) (some : IsSome (object_shown trees overlay (number_of node))) (plan : Plan)
+    (none : in_turn plan ≡ []) where
+  leads_for : (path : List (List ℕ)) (object : ℕ) (first : LayerRef)
+      → slice_get overlay.layers.lowers 0 ≡ Some first
+      → at_path (layer_of trees first) path ≡ Some object → (upper : LayerRef)
+      → slice_get overlay.layers.lowers 0 ≡ Some upper → at_path (layer_of trees upper) path ≡ Some object
+  leads_for path object first is leads upper e =
+      ap (λ (l : LayerRef). at_path (layer_of trees l) path) (same_Some upper first (sym e ∙ is)) ∙ leads
+
+  -- a path leads to it
+  pub above_there : AreCopiesOf true trees overlay node plan → IsAbove trees overlay node plan.directory
+  above_there (is_above _ real is zero_layer same nothing) =
+      ⊎_elim by_above by_below (shown_node trees overlay looked at.0 node node_small at.1)
+    where
+      at : (path : List (List ℕ)) × (number_at trees overlay path ≡ Some (number_of node))
+      at = at_its_path trees overlay looked node node_small some
+
+      seen : Some (seen_of real) ≡ shown (layers_of trees overlay.layers.lowers) at.0
+      seen = ap (option_map seen_of) (sym is) ∙ real_shown_at trees overlay looked node node_small at.0 at.1
+
+      by_above : shows.IsAbove trees overlay looked at.0 node → IsAbove trees overlay node plan.directory
+      by_above a =
+          let object : a.object ≡ inode_of plan.directory =
+          ap (λ (s : Shown ℕ). s.object) (same_Some (record { layer = 0; object = a.object }) (seen_of real)
+          (sym a.is ∙ sym seen)) ∙ ap inode_of (sym same) in
+          record {
+            path = at.0;
+            numbered = at.1;
+            leads = leads_for at.0 (inode_of plan.directory) looked.top looked.first (a.leads ∙ ap Some object);
+          }
+
+      by_below : shows.IsBelow trees overlay looked at.0 node → IsAbove trees overlay node plan.directory
+      by_below b =
+          let layer : suc b.layer ≡ real.layer = ap (λ (s : Shown ℕ). s.layer)
+          (same_Some (record { layer = suc b.layer; object = b.object }) (seen_of real) (sym b.is ∙ sym seen)) in
+          absurd (let no : ⊥ = omega (arith, layer, zero_layer) in no)
+  above_there (is_below _ path numbered planned) =
+      let whole : AreSplit overlay.layers.lowers = split_layers overlay.layers.lowers looked.stands.upper in
+      let is = planned whole.upper whole.lowers whole.is in
+      let all : is.front ≡ path = sym (append-nil is.front)
+      ∙ ap (λ pieces. is.front ++ names_of pieces) (sym none) ∙ is.whole in
+      record {
+        path = path;
+        numbered = numbered;
+        leads = leads_for path (inode_of plan.directory) whole.upper (ap (λ l. slice_get l 0) whole.is)
+            (ap (at_path (layer_of trees whole.upper)) (sym all) ∙ is.leads);
+      }
+
 module _ (trees : Filesystems) (overlay : UpperOverlayValue) (looked : IsLooked trees overlay) (node : NodeRef)
     (node_small : IsSmall node) (some : IsSome (object_shown trees overlay (number_of node)))
     (directory : is_directory_node (object_lent trees overlay node) ≡ true) (plan : Plan)
@@ -167,9 +213,6 @@ module _ (trees : Filesystems) (overlay : UpperOverlayValue) (looked : IsLooked 
       → many plan < inodes_promised (with_changed f (promising inodes) trees) f
   promised_for inodes few = let more = more_promised inodes in omega (arith, more, few)
 
-  split : AreSplit overlay.layers.lowers
-  split = split_layers overlay.layers.lowers looked.stands.upper
-
   -- the inode that the last copy was made of, or that which is there, is a directory
   pub last_directory : IsLastFit IsADirectory plan trees
   last_directory = fit_copies trees overlay IsADirectory directory_kind looked node node_small directory trees true plan
@@ -186,50 +229,8 @@ module _ (trees : Filesystems) (overlay : UpperOverlayValue) (looked : IsLooked 
     directory_there = subst (λ pieces. IsLastOf IsADirectory IsADirectory pieces
         (tree.node (inode_of plan.directory))) none last_directory
 
-    leads_for : (path : List (List ℕ)) (object : ℕ) (first : LayerRef)
-        → slice_get overlay.layers.lowers 0 ≡ Some first
-        → at_path (layer_of trees first) path ≡ Some object → (upper : LayerRef)
-        → slice_get overlay.layers.lowers 0 ≡ Some upper → at_path (layer_of trees upper) path ≡ Some object
-    leads_for path object first is leads upper e =
-        ap (λ (l : LayerRef). at_path (layer_of trees l) path) (same_Some upper first (sym e ∙ is)) ∙ leads
-
-    -- a path leads to it
     pub above_found : AreCopiesOf true trees overlay node plan → IsAbove trees overlay node plan.directory
-    above_found (is_above _ real is zero_layer same nothing) =
-        ⊎_elim by_above by_below (shown_node trees overlay looked at.0 node node_small at.1)
-      where
-        at : (path : List (List ℕ)) × (number_at trees overlay path ≡ Some (number_of node))
-        at = at_its_path trees overlay looked node node_small some
-
-        seen : Some (seen_of real) ≡ shown (layers_of trees overlay.layers.lowers) at.0
-        seen = ap (option_map seen_of) (sym is) ∙ real_shown_at trees overlay looked node node_small at.0 at.1
-
-        by_above : shows.IsAbove trees overlay looked at.0 node → IsAbove trees overlay node plan.directory
-        by_above a =
-            let object : a.object ≡ inode_of plan.directory =
-            ap (λ (s : Shown ℕ). s.object) (same_Some (record { layer = 0; object = a.object }) (seen_of real)
-            (sym a.is ∙ sym seen)) ∙ ap inode_of (sym same) in
-            record {
-              path = at.0;
-              numbered = at.1;
-              leads = leads_for at.0 (inode_of plan.directory) top top_first (a.leads ∙ ap Some object);
-            }
-
-        by_below : shows.IsBelow trees overlay looked at.0 node → IsAbove trees overlay node plan.directory
-        by_below b =
-            let layer : suc b.layer ≡ real.layer = ap (λ (s : Shown ℕ). s.layer)
-            (same_Some (record { layer = suc b.layer; object = b.object }) (seen_of real) (sym b.is ∙ sym seen)) in
-            absurd (let no : ⊥ = omega (arith, layer, zero_layer) in no)
-    above_found (is_below _ path numbered planned) =
-        let is = planned split.upper split.lowers split.is in
-        let whole : is.front ≡ path = sym (append-nil is.front)
-        ∙ ap (λ pieces. is.front ++ names_of pieces) (sym none) ∙ is.whole in
-        record {
-          path = path;
-          numbered = numbered;
-          leads = leads_for path (inode_of plan.directory) split.upper (ap (λ l. slice_get l 0) split.is)
-              (ap (at_path (layer_of trees split.upper)) (sym whole) ∙ is.leads);
-        }
+    above_found = above_there trees overlay looked node node_small some plan none
 
     module _ (name : List ℕ) (may : MayPutIn trees overlay node name) (leaving : Option Leaving)
         (leads : option_map object_in leaving ≡ entry_at tree (inode_of plan.directory) name)
@@ -386,6 +387,14 @@ module _ (trees : Filesystems) (overlay : UpperOverlayValue) (stands : StandsAbo
         ∙ led-append (layer_of trees whole.upper).tree (inode_of whole.upper.directory) (at.path ++ name ∷ []) word
         object one longer
         (ap (λ n. entry_at (files_at trees n).tree object word) (sym whole_count) ∙ leads)
+
+  pub white_there : MayMakeIn trees overlay node name → (directory : InodeRef) (object : ℕ)
+      → IsAbove trees overlay node directory → directory.filesystem.count ≡ upper_count overlay
+      → entry_at (files_at trees directory.filesystem.count).tree (inode_of directory) name ≡ Some object
+      → IsWhite ((files_at trees directory.filesystem.count).tree.node object)
+  white_there may directory object at count entry =
+      white_at directory object at count entry (at.path ++ name ∷ []) object (longer directory object at count entry)
+      (may.free at.path at.numbered)
 
   pub may_put : MayMakeIn trees overlay node name → MayPutIn trees overlay node name
   may_put may = record {

@@ -1,9 +1,10 @@
 -- What is made in the place of what leaves, in trees whose inodes count their uses and in trees.
 use Rattle.std.proofs.Common.{All, ◌≡◌, ◌≢◌, ◌∙◌, ◌++◌, ◌∷◌, ◌||◌, [], ap, Bool, false, List, map, nat_eq, None, Option, refl, Some, true, ℕ}
-use Rattle.vt_spec.proofs.Common.{All-cons, All-head, All-nil, All-push, All-tail, Change, Entries, FileTree, Inodes, Make, Node, Remove, changed, is_among, nat_eq_itself, or_right, pinned, tree_of, unpinned}
+use Rattle.vt_spec.proofs.Common.{AddName, All-cons, All-head, All-nil, All-push, All-tail, Change, Entries, FileTree, Inodes, Make, Node, Remove, changed, is_among, nat_eq_itself, or_right, pinned, tree_of, unpinned}
 use Rattle.vt_spec.specs.Inodes as counting
 use Rattle.vt_spec.specs.Lists.{folded}
 use Rattle.vt_upper.specs.Leaving.{freed, freed_once, going, gone_from, let_go, made_over}
+use Rattle.vt_upper.specs.Linking.{linked_over}
 use Rattle.vt_upper.proofs.RowsAlike.{AreAlike, change_alike, less_alike, used_alike}
 use Rattle.vt_upper.proofs.RowsEmptied.{removing}
 
@@ -114,3 +115,15 @@ module _ (d : ℕ) (name : List ℕ) (had : Option ℕ) (within : Entries ℕ) (
       (change_alike gone (freed d name had within inodes) (folded (changed nat_eq) files row) (Make d name number node) apart
       freed_alike) m stays
       ∙ ap (λ (f : FileTree ℕ). f.tree.node m) (folded-both (changed nat_eq) row (Make d name number node ∷ []) files)
+
+  -- an inode that is there gets the name
+  pub linked_alike_all : (kept : Bool) (number : ℕ)
+      → AreAlike gone (tree_of (linked_over kept name had within d number inodes))
+      (folded (changed nat_eq) files (row ++ (AddName d name number ∷ []))).tree
+  linked_alike_all kept number m stays =
+      let_go_alike gone (going kept had within)
+      (counting.changed nat_eq (freed d name had within inodes) (AddName d name number))
+      (changed nat_eq (folded (changed nat_eq) files row) (AddName d name number)) (all_gone kept)
+      (change_alike gone (freed d name had within inodes) (folded (changed nat_eq) files row) (AddName d name number) tt
+      freed_alike) m stays
+      ∙ ap (λ (f : FileTree ℕ). f.tree.node m) (folded-both (changed nat_eq) row (AddName d name number ∷ []) files)

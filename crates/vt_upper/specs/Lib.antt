@@ -7,6 +7,8 @@ pub mod KeptLaws
 pub mod LastName
 pub mod Laws
 pub mod Leaving
+pub mod LinkLaws
+pub mod Linking
 pub mod Losing
 pub mod LosingLaws
 pub mod New

@@ -10,7 +10,7 @@ ghost use Rattle.vt_upper.specs.Copies.{AreCopiesOf, IsLastFit};
 ghost use Rattle.vt_upper_overlay.specs.MergedAbove.{object_lent, object_shown, upper_count};
 ghost use Rattle.vt_upper_overlay.specs.Standing.{StandsAbove};
 
-use crate::copying::plan_copies;
+use crate::copying::{CopiedObject, plan_copies};
 use std::alloc::{AllocError, Global};
 use vt_copyup::{Plan, give_back, promise};
 use vt_fs::Filesystems;
@@ -51,6 +51,13 @@ impl ObjectChange {
     }
 }
 
+/// An object that is changed, and how.
+#[derive(Debug, Drop)]
+pub struct ChangedObject {
+    pub object: NodeRef,
+    pub change: ObjectChange,
+}
+
 /// The change of an object, with the copies that it needs. It owns all memory that they take; inodes and births are
 /// promised to it. It must be applied or given back.
 #[derive(Debug)]
@@ -66,17 +73,16 @@ impl ChangePlan {
         trees: &mut Filesystems,
         overlay: &mut UpperOverlay,
         room: &mut EntryRoom,
-        object: NodeRef,
-        change: ObjectChange,
+        changed: ChangedObject,
     ) -> Result<ChangePlan, AllocError>
         requires standing { StandsAbove trees.old overlay.old }
-        requires own { object.filesystem ≡ overlay.old.layers.number }
-        requires shown { IsSome (object_shown trees.old overlay.old (number_of object)) }
+        requires own { changed.object.filesystem ≡ overlay.old.layers.number }
+        requires shown { IsSome (object_shown trees.old overlay.old (number_of changed.object)) }
         requires there { CopiesAreThere trees.old (upper_count overlay.old) overlay.old.nodes.births }
-        requires fit { IsFit change (object_lent trees.old overlay.old object) }
+        requires fit { IsFit changed.change (object_lent trees.old overlay.old changed.object) }
         ensures copies { IfOk result (λ plan.
-            AreCopiesOf (keeps_bytes change) trees.old overlay.old object plan.copies) }
-        ensures change { IfOk result (λ plan. plan.change ≡ change) }
+            AreCopiesOf (keeps_bytes changed.change) trees.old overlay.old changed.object plan.copies) }
+        ensures change { IfOk result (λ plan. plan.change ≡ changed.change) }
         ensures ready { IfOk result (λ plan. IsReady plan.copies trees.new overlay.new.nodes.births room.new) }
         ensures fit { IfOk result (λ plan. IsLastFit (IsFit plan.change) plan.copies trees.new) }
         ensures inodes { IfOk result (λ plan. trees.new
@@ -92,7 +98,12 @@ impl ChangePlan {
         ensures err { OnErr result (trees.new ≡ trees.old) }
         ensures err_overlay { OnErr result (overlay.new ≡ overlay.old) }
     {
-        let copies = plan_copies(alloc, trees, overlay, room, object, change.keeps_bytes())?;
+        let ChangedObject { object, change } = changed;
+        let copied = CopiedObject {
+            node: object,
+            with_bytes: change.keeps_bytes(),
+        };
+        let copies = plan_copies(alloc, trees, overlay, room, copied)?;
         let many = copies.len();
         promise(
             trees,

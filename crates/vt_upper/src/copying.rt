@@ -18,42 +18,48 @@ use vt_node::{EntryRoom, NodeId};
 use vt_overlay::{LayerRef, WayDown, way_down};
 use vt_upper_overlay::UpperOverlay;
 
-/// Plans the copies of an object that is shown, if it is in a lower layer, with those of its missing parents. A file that
-/// is to be written whole is copied without its bytes.
+/// An object that is copied, a file with its bytes or, where it is to be written whole, without them.
+#[derive(Clone, Copy, Debug)]
+pub(crate) struct CopiedObject {
+    pub(crate) node: NodeRef,
+    pub(crate) with_bytes: bool,
+}
+
+/// Plans the copies of an object that is shown, if it is in a lower layer, with those of its missing parents.
 pub(crate) fn plan_copies(
     alloc: Global,
     trees: &Filesystems,
     overlay: &UpperOverlay,
     room: &mut EntryRoom,
-    object: NodeRef,
-    with_bytes: bool,
+    object: CopiedObject,
 ) -> Result<Plan, AllocError>
     requires standing { StandsAbove trees.now overlay.now }
-    requires own { object.filesystem ≡ overlay.now.layers.number }
-    requires shown { IsSome (object_shown trees.now overlay.now (number_of object)) }
-    ensures copies { IfOk result (AreCopiesOf with_bytes trees.now overlay.now object) }
+    requires own { object.node.filesystem ≡ overlay.now.layers.number }
+    requires shown { IsSome (object_shown trees.now overlay.now (number_of object.node)) }
+    ensures copies { IfOk result (AreCopiesOf object.with_bytes trees.now overlay.now object.node) }
     ensures filesystem { IfOk result (λ plan. plan.directory.filesystem.count ≡ upper_count overlay.now) }
-    ensures small { IfOk result (λ plan. is_small_node object ≡ true) }
+    ensures small { IfOk result (λ plan. is_small_node object.node ≡ true) }
     ensures room { room.old ≤ room.new }
     ensures ready { (inodes more : ℕ) → CopiesAreThere trees.now (upper_count overlay.now) overlay.now.nodes.births
         → IfOk result (λ plan. many plan ≤ inodes → many plan ≤ more → IsReady plan
         (with_changed plan.directory.filesystem.count (promising inodes) trees.now)
         (record overlay.now.nodes.births { promised = overlay.now.nodes.births.promised + more }) room.new) }
 {
-    let Some(real) = overlay.real(object) else {
+    let CopiedObject { node, with_bytes } = object;
+    let Some(real) = overlay.real(node) else {
         unreachable!();
     };
     if real.layer == 0 {
         return Ok(Plan::nothing(alloc, real.inode));
     }
-    let Some(place) = born_at(trees, overlay, object) else {
+    let Some(place) = born_at(trees, overlay, node) else {
         unreachable!();
     };
     let path = place.way.under(place.name);
     let source = Source {
         trees,
         layers: overlay.layers(),
-        overlay: object.filesystem,
+        overlay: node.filesystem,
         with_bytes,
     };
     plan(alloc, source, room, &path)

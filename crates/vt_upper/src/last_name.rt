@@ -1,5 +1,5 @@
-//! The last name of a node: unlink(2), rmdir(2). What a lower layer has has one name, under which it was born. What the
-//! upper layer has has a name for each entry to its inode in a directory that is shown.
+//! The last name of a node: unlink(2), rmdir(2). A node with its object in a lower layer has one name, under which it was
+//! born. One with its object in the upper layer has a name for each entry to that in a directory that is shown.
 ghost use Rattle.std.specs.Prelude.{◌≡◌, ◌++◌, ◌∷◌, [], is_some, List, true, ℕ};
 ghost use Rattle.std.specs.List.{list_any};
 ghost use Rattle.vt_spec.specs.Tree.{entries_in};
@@ -17,8 +17,8 @@ use vt_location::{FilesystemId, InodeRef, NodeRef};
 use vt_node::NodeId;
 use vt_upper_overlay::UpperOverlay;
 
-/// Whether a name of a directory that is shown is the last one of its node: nothing else shows it. Of the upper layer it
-/// looks into the directories that have a name for the node's inode, and into no others. It does not allocate.
+/// Whether the name of a node in a directory that is shown is its last one: no other path shows the node. It looks only into
+/// those directories of the upper layer that its tree lists for the node's object. It does not allocate.
 pub fn is_last_name(
     trees: &Filesystems,
     overlay: &UpperOverlay,
@@ -38,7 +38,8 @@ pub fn is_last_name(
     !has_other_name(trees, overlay, InodeRef { filesystem, slot }, directory)
 }
 
-// Whether directories of the upper layer that are shown have a name for an inode of its tree, beside one of a directory.
+// Whether directories of the upper layer that are shown have a name for an inode of its tree, beside one name of this
+// directory.
 fn has_other_name(
     trees: &Filesystems,
     overlay: &UpperOverlay,
@@ -77,7 +78,7 @@ fn has_other_name_in(
         && shows_directory(trees, overlay, directory.filesystem, slot)
 }
 
-// The rank from which names of the directory in a slot of the upper layer count: one name of a directory does not.
+// The rank from which the names of the directory in a slot of the upper layer count: one name of this directory does not.
 fn first_rank(overlay: &UpperOverlay, directory: NodeRef, slot: usize) -> usize
     ensures { result ≡ first_rank overlay.now directory slot }
 {
@@ -103,14 +104,14 @@ fn has_name_ranked(trees: &Filesystems, directory: InodeRef, file: InodeRef, ran
 fn shows_directory(
     trees: &Filesystems,
     overlay: &UpperOverlay,
-    own: FilesystemId,
+    filesystem: FilesystemId,
     slot: usize,
 ) -> bool
     requires standing { StandsAbove trees.now overlay.now }
-    requires own { own ≡ overlay.now.layers.number }
+    requires own { filesystem ≡ overlay.now.layers.number }
     ensures { result ≡ is_some (directory_path trees.now overlay.now
         (number_of (node_above overlay.now.nodes.births overlay.now.layers.number slot))) }
 {
-    let node = overlay.nodes.births.node_above(own, slot);
+    let node = overlay.nodes.births.node_above(filesystem, slot);
     overlay.way(trees, node).is_some()
 }

@@ -3,6 +3,7 @@ ghost use Rattle.vt_upper.specs.CopyLaws.{CopiesStay, CopiesStayHidden};
 ghost use Rattle.vt_upper.specs.KeptLaws.{KeptChangesAboveAreMade, KeptChangesBelowAreMade};
 ghost use Rattle.vt_upper.specs.LastName.{LastNamesLeaveNone};
 ghost use Rattle.vt_upper.specs.Laws.{ChangesAboveAreMade, ChangesBelowAreMade};
+ghost use Rattle.vt_upper.specs.LinkLaws.{LinksAreMade, PlansAboveAreOfPaths};
 ghost use Rattle.vt_upper.specs.LosingLaws.{LosersAreHeld, UnnamedAreHeld};
 ghost use Rattle.vt_upper.specs.NewLaws.{NewObjectsAreMade};
 ghost use Rattle.vt_upper.specs.RemovalLaws.{NamesAreGone, NamesAreHidden};
@@ -52,6 +53,18 @@ pub fn losers_are_held()
     ensures held { LosersAreHeld }
     ensures unnamed { UnnamedAreHeld }
 {}
+
+/// What a plan makes of the upper layer's tree for a further name of an object is what the definitions' change makes of it,
+/// but for the whiteout that had the name, which goes if nothing uses it (`made`). A plan of no copies is that of each path
+/// that leads to its object in the upper layer (`above`).
+///
+/// Copies have the numbers that are handed out: those of the object even ones, and then those of the directory odd ones.
+pub fn links_are_made()
+    ensures made { LinksAreMade }
+    ensures above { PlansAboveAreOfPaths }
+{
+    changes_of_overlays_are_rows();
+}
 
 /// What a plan makes of the upper layer's tree where it removes a name is what the definitions' change makes of it, but for
 /// what had the name and what was in it, which go if nothing uses them: a whiteout hides what lower layers show there

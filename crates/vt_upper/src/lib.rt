@@ -8,17 +8,19 @@ mod keeping;
 mod last_name;
 mod laws;
 mod leaving;
+mod linking;
 mod losing;
 mod lowers;
 mod making;
 mod removing;
 
-pub use changing::{ChangePlan, ObjectChange};
+pub use changing::{ChangePlan, ChangedObject, ObjectChange};
 pub use keeping::KeptChangePlan;
 pub use last_name::is_last_name;
 pub use laws::{
-    changes_are_made, kept_changes_are_made, last_names_leave_none, losers_are_held,
-    new_objects_are_made, removals_are_made, removals_keep_copies,
+    changes_are_made, kept_changes_are_made, last_names_leave_none, links_are_made,
+    losers_are_held, new_objects_are_made, removals_are_made, removals_keep_copies,
 };
+pub use linking::{FurtherName, LinkPlan};
 pub use losing::{RemovalPlan, RemovedName};
-pub use making::{NamedNode, NewPlan};
+pub use making::{NamedNode, NewObject, NewPlan};

@@ -16,7 +16,7 @@ ghost use Rattle.vt_upper_overlay.specs.MergedAbove.{directory_path, merged_abov
 ghost use Rattle.vt_upper_overlay.specs.Standing.{StandsAbove};
 
 use crate::last_name::is_last_name;
-use crate::removing::NameRemoval;
+use crate::removing::{NameOf, NameRemoval};
 use std::alloc::{AllocError, Global};
 use vt_births::UpperNodes;
 use vt_fs::Filesystems;
@@ -101,6 +101,7 @@ fn one_more(keeps: bool) -> usize
 /// A name that is removed, and the node that has it. So many locations, roots of mounts and mount points are on that.
 #[derive(Debug, Drop)]
 pub struct RemovedName {
+    pub directory: NodeRef,
     pub name: Vec<u8>,
     pub node: NodeRef,
     pub uses: u64,
@@ -124,24 +125,23 @@ impl RemovalPlan {
         trees: &mut Filesystems,
         overlay: &mut UpperOverlay,
         room: &mut EntryRoom,
-        directory: NodeRef,
         removed: RemovedName,
     ) -> Result<RemovalPlan, AllocError>
         requires standing { StandsAbove trees.old overlay.old }
-        requires own { directory.filesystem ≡ overlay.old.layers.number }
+        requires own { removed.directory.filesystem ≡ overlay.old.layers.number }
         requires there { CopiesAreThere trees.old (upper_count overlay.old) overlay.old.nodes.births }
-        requires may_remove { MayRemoveFrom trees.old overlay.old directory removed.name.items }
-        requires named { entry_at (merged_above trees.old overlay.old) (number_of directory) removed.name.items
+        requires may_remove { MayRemoveFrom trees.old overlay.old removed.directory removed.name.items }
+        requires named { entry_at (merged_above trees.old overlay.old) (number_of removed.directory) removed.name.items
             ≡ Some (number_of removed.node) }
-        ensures place { IfOk result (λ plan. IsPlaceOf trees.old overlay.old directory plan.removal.place) }
+        ensures place { IfOk result (λ plan. IsPlaceOf trees.old overlay.old removed.directory plan.removal.place) }
         ensures keeps { IfOk result (λ plan. IsKeeping (keeps_node plan.losing) plan.removal.place) }
         ensures losing { IfOk result (λ plan. (path : List (List ℕ))
-            → directory_path trees.old overlay.old (number_of directory) ≡ Some path
+            → directory_path trees.old overlay.old (number_of removed.directory) ≡ Some path
             → IsLosing trees.old overlay.old (path ++ removed.name.items ∷ []) removed.node removed.uses plan.losing) }
         ensures name { IfOk result (λ plan. plan.removal.white.name ≡ removed.name) }
         ensures white { IfOk result (λ plan. plan.removal.white.node ≡ whiteout_of overlay.old.layers.mounter) }
         ensures hidden { IfOk result (λ plan. (path : List (List ℕ)) (upper : Layer) (lowers : List Layer)
-            → directory_path trees.old overlay.old (number_of directory) ≡ Some path
+            → directory_path trees.old overlay.old (number_of removed.directory) ≡ Some path
             → overlay.old.layers.lowers ≡ upper ∷ lowers
             → plan.removal.hidden ≡ is_shown_below trees.old upper lowers (path ++ removed.name.items ∷ [])) }
         ensures ready { IfOk result (λ plan. IsRemovalReady plan.removal.hidden plan.removal.place removed.name.items
@@ -163,9 +163,14 @@ impl RemovalPlan {
         ensures err { OnErr result (trees.new ≡ trees.old) }
         ensures err_overlay { OnErr result (overlay.new ≡ overlay.old) }
     {
-        let RemovedName { name, node, uses } = removed;
+        let RemovedName {
+            directory,
+            name,
+            node,
+            uses,
+        } = removed;
         let losing = Losing::of(trees, overlay, directory, node, uses);
-        let removal = NameRemoval::new(alloc, trees, overlay, room, directory, name)?;
+        let removal = NameRemoval::new(alloc, trees, overlay, room, NameOf { directory, name })?;
         let keeps = losing.keeps();
         match overlay.nodes.kept.promise(one_more(keeps)) {
             Ok(()) => Ok(RemovalPlan {

@@ -3,10 +3,10 @@
 ghost use Rattle.std.specs.FinMap.Entries.{is_sorted};
 ghost use Rattle.std.specs.Prelude.{◌≡◌, ◌+◌, ◌++◌, ◌<◌, ◌≤◌, ◌∷◌, ◌-◌, [], IfOk, IfSome, List, OnErr, Some, false, length, nat_eq, option_map, true, ℕ};
 ghost use Rattle.vt_spec.specs.Inodes.{changed};
-ghost use Rattle.vt_spec.specs.Language.Changes.Change.{Make};
+ghost use Rattle.vt_spec.specs.Language.Changes.Change.{AddName, Make};
 ghost use Rattle.vt_spec.specs.Lists.{folded};
 ghost use Rattle.vt_spec.specs.Tree.{entries_in, name_cmp};
-ghost use Rattle.vt_spec.specs.TreeInvariant.{entry_at};
+ghost use Rattle.vt_spec.specs.TreeInvariant.{IsDirectory, entry_at};
 ghost use Rattle.vt_copyup.specs.Plans.{CopiesAreThere, EntriesAreThere};
 ghost use Rattle.vt_fs.specs.FilesystemsValue.{ChangesInodes, files_at, giving_back, inodes_at, inodes_promised, promising, with_changed};
 ghost use Rattle.vt_laws_upper_layers.specs.Rows.{marking, removal};
@@ -17,15 +17,16 @@ ghost use Rattle.vt_upper.specs.Below.{is_directory_below};
 ghost use Rattle.vt_upper_overlay.specs.MergedAbove.{directory_path, upper_count};
 ghost use Rattle.vt_upper_overlay.specs.Standing.{StandsAbove};
 ghost use Rattle.vt_upper.specs.Leaving.{gone_from, made_over, within_of};
+ghost use Rattle.vt_upper.specs.Linking.{IsLinkable, IsWhiteAt, linked_over};
 ghost use Rattle.vt_upper.specs.New.{HasName, IsCopiedFrom, IsEmptyNode, IsKnown, IsNameGone, IsNameReady, IsNewMade, IsPlaceOf, IsPlaceReady, MayMakeIn, MayPutIn, had_in, keeping, made_in_place, made_new, many_in, object_in, start_of};
 
-use crate::copying::plan_copies;
+use crate::copying::{CopiedObject, plan_copies};
 use crate::leaving::{Leaving, entry_of};
 use crate::lowers::directory_below;
 use std::alloc::{AllocError, Global};
 use vt_births::Births;
 use vt_copyup::{CopiedNode, FreeName, Plan, give_back, promise};
-use vt_fs::Filesystems;
+use vt_fs::{Filesystems, LinkRoom};
 use vt_location::{FilesystemId, InodeRef, NodeRef};
 use vt_node::EntryRoom;
 use vt_upper_overlay::UpperOverlay;
@@ -37,13 +38,20 @@ pub struct NamedNode {
     pub node: CopiedNode,
 }
 
+// An object in the upper layer that gets a further name, and the directories that have its names, with a place for one more.
+#[derive(Debug, Drop)]
+pub(crate) struct LinkedObject {
+    pub(crate) object: InodeRef,
+    pub(crate) links: LinkRoom,
+}
+
 // A directory that is there, and what has a name in it, if anything has.
 #[derive(Debug, Drop)]
 pub(crate) struct Spot {
-    directory: InodeRef,
-    leaving: Option<Leaving>,
+    pub(crate) directory: InodeRef,
+    pub(crate) leaving: Option<Leaving>,
     // It is kept when it loses the name, since it is in use.
-    keeps: bool,
+    pub(crate) keeps: bool,
 }
 
 impl Spot {
@@ -79,6 +87,36 @@ impl Spot {
         let made = node.make(alloc, trees, FreeName { directory, name }, room);
         leaving.let_go(trees, keeps);
         made
+    }
+
+    // Gives an object a further name, in the place of what has this name. It does not allocate.
+    pub(crate) fn link(
+        self,
+        trees: &mut Filesystems,
+        room: &mut EntryRoom,
+        name: Vec<u8>,
+        linked: LinkedObject,
+    )
+        requires name { HasName trees.old self name.items }
+        requires white { IsWhiteAt trees.old self (inode_of linked.object) }
+        requires linkable { IsLinkable linked self.directory trees.old room.old }
+        ensures { ChangesInodes self.directory.filesystem.count
+            (linked_over self.keeps name.items (had_in self)
+            (within_of (files_at trees.old self.directory.filesystem.count).tree (had_in self))
+            (inode_of self.directory) (inode_of linked.object)) trees.old trees.new }
+    {
+        let Spot {
+            directory,
+            leaving,
+            keeps,
+        } = self;
+        let Some(leaving) = leaving else {
+            add_name(trees, room, directory, name, linked);
+            return;
+        };
+        leaving.free(trees, directory, &name);
+        add_name(trees, room, directory, name, linked);
+        leaving.let_go(trees, keeps);
     }
 
     // Removes the name. It does not allocate.
@@ -198,35 +236,66 @@ impl Place {
     }
 }
 
+// Gives an object a name more in a directory, which has no such name. It does not allocate.
+fn add_name(
+    trees: &mut Filesystems,
+    room: &mut EntryRoom,
+    directory: InodeRef,
+    name: Vec<u8>,
+    linked: LinkedObject,
+)
+    requires directory { IsDirectory (files_at trees.old directory.filesystem.count).tree (inode_of directory) }
+    requires free { entry_at (files_at trees.old directory.filesystem.count).tree (inode_of directory) name.items
+        ≡ None }
+    requires linkable { IsLinkable linked directory trees.old room.old }
+    ensures { ChangesInodes directory.filesystem.count (λ inodes. changed nat_eq inodes
+        (AddName (inode_of directory) name.items (inode_of linked.object))) trees.old trees.new }
+{
+    let LinkedObject { object, links } = linked;
+    let above = directory.node_ref();
+    let named = object.node_ref();
+    trees.link_promised(above, name, named, room, links);
+}
+
+// A name in a directory of the overlay.
+#[derive(Clone, Copy, Debug)]
+pub(crate) struct NameIn<'a> {
+    pub(crate) directory: NodeRef,
+    pub(crate) name: &'a [u8],
+}
+
 // Where an inode gets its name, or loses it: in the directory as it is in the upper layer, or in its copy.
 pub(crate) fn place_for(
     alloc: Global,
     trees: &Filesystems,
     overlay: &UpperOverlay,
     room: &mut EntryRoom,
-    directory: NodeRef,
-    name: &[u8],
+    at: NameIn<'_>,
 ) -> Result<Place, AllocError>
     requires standing { StandsAbove trees.now overlay.now }
-    requires own { directory.filesystem ≡ overlay.now.layers.number }
-    requires may_put { MayPutIn trees.now overlay.now directory name.now }
-    ensures place { IfOk result (IsPlaceOf trees.now overlay.now directory) }
+    requires own { at.directory.filesystem ≡ overlay.now.layers.number }
+    requires may_put { MayPutIn trees.now overlay.now at.directory at.name.now }
+    ensures place { IfOk result (IsPlaceOf trees.now overlay.now at.entry.directory) }
     ensures filesystem { IfOk result (λ place. (start_of place).filesystem.count ≡ upper_count overlay.now) }
     ensures room { room.old ≤ room.new }
     ensures ready { (inodes more : ℕ) → CopiesAreThere trees.now (upper_count overlay.now) overlay.now.nodes.births
-        → IfOk result (λ place. many_in place < inodes → many_in place ≤ more → IsPlaceReady place name.now
+        → IfOk result (λ place. many_in place < inodes → many_in place ≤ more → IsPlaceReady place at.entry.name.now
         (with_changed (start_of place).filesystem.count (promising inodes) trees.now)
         (record overlay.now.nodes.births { promised = overlay.now.nodes.births.promised + more }) room.new) }
     ensures name_ready { (inodes more : ℕ) → CopiesAreThere trees.now (upper_count overlay.now) overlay.now.nodes.births
-        → IfOk result (λ place. many_in place ≤ inodes → many_in place ≤ more → IsNameReady place name.now
+        → IfOk result (λ place. many_in place ≤ inodes → many_in place ≤ more → IsNameReady place at.entry.name.now
         (with_changed (start_of place).filesystem.count (promising inodes) trees.now)
         (record overlay.now.nodes.births { promised = overlay.now.nodes.births.promised + more }) room.new) }
 {
-    let copies = plan_copies(alloc, trees, overlay, room, directory, true)?;
+    let copied = CopiedObject {
+        node: at.directory,
+        with_bytes: true,
+    };
+    let copies = plan_copies(alloc, trees, overlay, room, copied)?;
     if copies.len() == 0 {
         let above = copies.directory();
         trees.make_room(above.node_ref(), 1, room)?;
-        let leaving = leaving_from(alloc, trees, above, name)?;
+        let leaving = leaving_from(alloc, trees, above, at.name)?;
         return Ok(Place::There {
             spot: Spot {
                 directory: above,
@@ -239,7 +308,7 @@ pub(crate) fn place_for(
 }
 
 // What has a name in a directory of a plain tree, if anything has, with all that is in it.
-fn leaving_from(
+pub(crate) fn leaving_from(
     alloc: Global,
     trees: &Filesystems,
     directory: InodeRef,
@@ -321,6 +390,13 @@ fn mark(trees: &mut Filesystems, object: InodeRef, opaque: bool)
     trees.set_opaque(object.node_ref(), true);
 }
 
+/// A new object, and the directory that gets it.
+#[derive(Debug, Drop)]
+pub struct NewObject {
+    pub directory: NodeRef,
+    pub object: NamedNode,
+}
+
 /// A new object, with the copies that its directory needs. It owns all memory that they take; inodes and births are
 /// promised to it. It must be applied or given back.
 #[derive(Debug)]
@@ -339,20 +415,19 @@ impl NewPlan {
         trees: &mut Filesystems,
         overlay: &mut UpperOverlay,
         room: &mut EntryRoom,
-        directory: NodeRef,
-        object: NamedNode,
+        made: NewObject,
     ) -> Result<NewPlan, AllocError>
         requires standing { StandsAbove trees.old overlay.old }
-        requires own { directory.filesystem ≡ overlay.old.layers.number }
+        requires own { made.directory.filesystem ≡ overlay.old.layers.number }
         requires there { CopiesAreThere trees.old (upper_count overlay.old) overlay.old.nodes.births }
-        requires may_make { MayMakeIn trees.old overlay.old directory object.name.items }
-        ensures place { IfOk result (λ plan. IsPlaceOf trees.old overlay.old directory plan.place) }
-        ensures object { IfOk result (λ plan. plan.object ≡ object) }
+        requires may_make { MayMakeIn trees.old overlay.old made.directory made.object.name.items }
+        ensures place { IfOk result (λ plan. IsPlaceOf trees.old overlay.old made.directory plan.place) }
+        ensures object { IfOk result (λ plan. plan.object ≡ made.object) }
         ensures opaque { IfOk result (λ plan. (path : List (List ℕ)) (upper : Layer) (lowers : List Layer)
-            → directory_path trees.old overlay.old (number_of directory) ≡ Some path
+            → directory_path trees.old overlay.old (number_of made.directory) ≡ Some path
             → overlay.old.layers.lowers ≡ upper ∷ lowers
-            → plan.opaque ≡ is_directory_below trees.old upper lowers (path ++ object.name.items ∷ [])) }
-        ensures ready { IfOk result (λ plan. IsPlaceReady plan.place object.name.items trees.new
+            → plan.opaque ≡ is_directory_below trees.old upper lowers (path ++ made.object.name.items ∷ [])) }
+        ensures ready { IfOk result (λ plan. IsPlaceReady plan.place made.object.name.items trees.new
             overlay.new.nodes.births room.new) }
         ensures inodes { IfOk result (λ plan. trees.new
             ≡ with_changed (upper_count overlay.old) (promising (many_in plan.place + 1)) trees.old) }
@@ -367,8 +442,13 @@ impl NewPlan {
         ensures err { OnErr result (trees.new ≡ trees.old) }
         ensures err_overlay { OnErr result (overlay.new ≡ overlay.old) }
     {
+        let NewObject { directory, object } = made;
         let opaque = hides_directory(trees, overlay, directory, &object.name);
-        let place = place_for(alloc, trees, overlay, room, directory, &object.name)?;
+        let at = NameIn {
+            directory,
+            name: &object.name,
+        };
+        let place = place_for(alloc, trees, overlay, room, at)?;
         let copies = place.copies();
         let Some(inodes) = copies.checked_add(1) else {
             return Err(AllocError);

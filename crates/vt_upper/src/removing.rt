@@ -12,13 +12,20 @@ ghost use Rattle.vt_upper_overlay.specs.MergedAbove.{directory_path, upper_count
 ghost use Rattle.vt_upper_overlay.specs.Standing.{StandsAbove};
 
 use crate::lowers::shown_below;
-use crate::making::{NamedNode, Place, place_for};
+use crate::making::{NameIn, NamedNode, Place, place_for};
 use std::alloc::{AllocError, Global};
 use vt_copyup::{CopiedNode, give_back, promise};
 use vt_fs::Filesystems;
 use vt_location::NodeRef;
 use vt_node::{Attr, EntryRoom, Mode};
 use vt_upper_overlay::UpperOverlay;
+
+// A name of a directory of the overlay.
+#[derive(Debug, Drop)]
+pub(crate) struct NameOf {
+    pub(crate) directory: NodeRef,
+    pub(crate) name: Vec<u8>,
+}
 
 // A name that is removed, with the copies that its directory needs. It owns all memory that they take; inodes and births
 // are promised to it.
@@ -38,22 +45,21 @@ impl NameRemoval {
         trees: &mut Filesystems,
         overlay: &mut UpperOverlay,
         room: &mut EntryRoom,
-        directory: NodeRef,
-        name: Vec<u8>,
+        at: NameOf,
     ) -> Result<NameRemoval, AllocError>
         requires standing { StandsAbove trees.old overlay.old }
-        requires own { directory.filesystem ≡ overlay.old.layers.number }
+        requires own { at.directory.filesystem ≡ overlay.old.layers.number }
         requires there { CopiesAreThere trees.old (upper_count overlay.old) overlay.old.nodes.births }
-        requires may_remove { MayRemoveFrom trees.old overlay.old directory name.items }
-        ensures place { IfOk result (λ plan. IsPlaceOf trees.old overlay.old directory plan.place) }
+        requires may_remove { MayRemoveFrom trees.old overlay.old at.directory at.name.items }
+        ensures place { IfOk result (λ plan. IsPlaceOf trees.old overlay.old at.directory plan.place) }
         ensures filesystem { IfOk result (λ plan. (start_of plan.place).filesystem.count ≡ upper_count overlay.old) }
-        ensures name { IfOk result (λ plan. plan.white.name ≡ name) }
+        ensures name { IfOk result (λ plan. plan.white.name ≡ at.name) }
         ensures white { IfOk result (λ plan. plan.white.node ≡ whiteout_of overlay.old.layers.mounter) }
         ensures hidden { IfOk result (λ plan. (path : List (List ℕ)) (upper : Layer) (lowers : List Layer)
-            → directory_path trees.old overlay.old (number_of directory) ≡ Some path
+            → directory_path trees.old overlay.old (number_of at.directory) ≡ Some path
             → overlay.old.layers.lowers ≡ upper ∷ lowers
-            → plan.hidden ≡ is_shown_below trees.old upper lowers (path ++ name.items ∷ [])) }
-        ensures ready { IfOk result (λ plan. IsRemovalReady plan.hidden plan.place name.items trees.new
+            → plan.hidden ≡ is_shown_below trees.old upper lowers (path ++ at.name.items ∷ [])) }
+        ensures ready { IfOk result (λ plan. IsRemovalReady plan.hidden plan.place at.name.items trees.new
             overlay.new.nodes.births room.new) }
         ensures inodes { IfOk result (λ plan. trees.new ≡ with_changed (upper_count overlay.old)
             (promising (many_in plan.place + one_if plan.hidden)) trees.old) }
@@ -68,8 +74,13 @@ impl NameRemoval {
         ensures err { OnErr result (trees.new ≡ trees.old) }
         ensures err_overlay { OnErr result (overlay.new ≡ overlay.old) }
     {
+        let NameOf { directory, name } = at;
         let hidden = hides_something(trees, overlay, directory, &name);
-        let place = place_for(alloc, trees, overlay, room, directory, &name)?;
+        let removed = NameIn {
+            directory,
+            name: &name,
+        };
+        let place = place_for(alloc, trees, overlay, room, removed)?;
         let copies = place.copies();
         let Some(inodes) = inodes_for(copies, hidden) else {
             return Err(AllocError);

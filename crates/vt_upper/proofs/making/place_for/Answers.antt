@@ -20,7 +20,7 @@ pub returns-then-len-eq0-clause-place : goal.returns-then-len-eq0-clause-place
 returns-then-len-eq0-clause-place c =
     let trees = c.args.trees.now in
     let overlay = c.args.overlay.now in
-    let node = c.args.directory in
+    let node = c.args.at.directory in
     let copies = c.in_ok-copies.copies in
     let small = c.in_ok-copies.ensures.small in
     let looked = looked_by trees overlay node c.requires.standing small c.requires.own in
@@ -39,7 +39,7 @@ pub leaving_from-requires : goal.leaving_from-requires
 leaving_from-requires c =
     let trees = c.args.trees.now in
     let overlay = c.args.overlay.now in
-    let node = c.args.directory in
+    let node = c.args.at.directory in
     let copies = c.in_ok-copies.copies in
     let small = c.in_ok-copies.ensures.small in
     let looked = looked_by trees overlay node c.requires.standing small c.requires.own in
@@ -55,9 +55,9 @@ pub returns-then-len-eq0-clause-ready : goal.returns-then-len-eq0-clause-ready
 returns-then-len-eq0-clause-ready c = λ inodes more there few_inodes few_births.
     let trees = c.args.trees.now in
     let overlay = c.args.overlay.now in
-    let node = c.args.directory in
+    let node = c.args.at.directory in
     let copies = c.in_ok-copies.copies in
-    let name = c.args.name.now in
+    let name = c.args.at.name.now in
     let small = c.in_ok-copies.ensures.small in
     let looked = looked_by trees overlay node c.requires.standing small c.requires.own in
     let zero : c.len.result ≡ 0 = search rules in
@@ -84,7 +84,7 @@ returns-then-len-eq0-clause-ready c = λ inodes more there few_inodes few_births
     name c.requires.may_put leaving leads known inodes births c.make_room.new.room few_inodes has_room)
 
 pub returns-clause-place : goal.returns-clause-place
-returns-clause-place c = copied_ok c.in_ok-copies.copies (IsPlaceOf c.args.trees.now c.args.overlay.now c.args.directory)
+returns-clause-place c = copied_ok c.in_ok-copies.copies (IsPlaceOf c.args.trees.now c.args.overlay.now c.args.at.directory)
     c.place_in_copy.result c.place_in_copy.ensures (λ room some. c.in_ok-copies.ensures.copies)
 
 pub returns-clause-filesystem : goal.returns-clause-filesystem
@@ -96,7 +96,7 @@ pub returns-clause-ready : goal.returns-clause-ready
 returns-clause-ready c = λ inodes more there.
     let trees = c.args.trees.now in
     let overlay = c.args.overlay.now in
-    let node = c.args.directory in
+    let node = c.args.at.directory in
     let copies = c.in_ok-copies.copies in
     let births = overlay.nodes.births in
     let small = c.in_ok-copies.ensures.small in
@@ -104,7 +104,7 @@ returns-clause-ready c = λ inodes more there.
     let no : nat_eq c.len.result 0 ≡ false = search rules in
     let some = some_pieces copies (ap (λ n. nat_eq n 0) (sym c.len.ensures) ∙ no) in
     copied_ok copies (λ (place : Place). many_in place < inodes → many_in place ≤ more → IsPlaceReady place
-    c.args.name.now (with_changed (start_of place).filesystem.count (promising inodes) trees)
+    c.args.at.name.now (with_changed (start_of place).filesystem.count (promising inodes) trees)
     (record births { promised = births.promised + more }) c.plan_copies.new.room)
     c.place_in_copy.result c.place_in_copy.ensures (λ room has_room few_inodes few_births. (
       c.in_ok-copies.ensures.ready inodes more there (omega (arith, few_inodes)) few_births,
@@ -120,9 +120,9 @@ pub returns-then-len-eq0-clause-name_ready : goal.returns-then-len-eq0-clause-na
 returns-then-len-eq0-clause-name_ready c = λ inodes more there few_inodes few_births.
     let trees = c.args.trees.now in
     let overlay = c.args.overlay.now in
-    let node = c.args.directory in
+    let node = c.args.at.directory in
     let copies = c.in_ok-copies.copies in
-    let name = c.args.name.now in
+    let name = c.args.at.name.now in
     let small = c.in_ok-copies.ensures.small in
     let looked = looked_by trees overlay node c.requires.standing small c.requires.own in
     let zero : c.len.result ≡ 0 = search rules in
@@ -145,7 +145,7 @@ pub returns-clause-name_ready : goal.returns-clause-name_ready
 returns-clause-name_ready c = λ inodes more there.
     let trees = c.args.trees.now in
     let overlay = c.args.overlay.now in
-    let node = c.args.directory in
+    let node = c.args.at.directory in
     let copies = c.in_ok-copies.copies in
     let births = overlay.nodes.births in
     let small = c.in_ok-copies.ensures.small in
@@ -153,7 +153,7 @@ returns-clause-name_ready c = λ inodes more there.
     let no : nat_eq c.len.result 0 ≡ false = search rules in
     let some = some_pieces copies (ap (λ n. nat_eq n 0) (sym c.len.ensures) ∙ no) in
     copied_ok copies (λ (place : Place). many_in place ≤ inodes → many_in place ≤ more → IsNameReady place
-    c.args.name.now (with_changed (start_of place).filesystem.count (promising inodes) trees)
+    c.args.at.name.now (with_changed (start_of place).filesystem.count (promising inodes) trees)
     (record births { promised = births.promised + more }) c.plan_copies.new.room)
     c.place_in_copy.result c.place_in_copy.ensures (λ room has_room few_inodes few_births. (
       c.in_ok-copies.ensures.ready inodes more there few_inodes few_births,

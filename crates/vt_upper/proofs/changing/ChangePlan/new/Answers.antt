@@ -29,7 +29,7 @@ pub returns-clause-fit : goal.returns-clause-fit
 returns-clause-fit c =
     let trees = c.args.trees.now in
     let overlay = c.args.overlay.now in
-    let object = c.args.object in
+    let object = c.args.changed.object in
     let copies = c.in_ok-copies.copies in
     let n = c.len-many.result in
     let small = c.in_ok-copies.ensures.small in
@@ -38,7 +38,7 @@ returns-clause-fit c =
     let inodes : c.promise.new.trees ≡ with_changed f (promising n) trees =
     c.in_ok-promise.ensures.inodes
     ∙ ap (λ (id : FilesystemId). with_changed id.count (promising n) trees) c.filesystem.ensures in
-    fit_copies trees overlay (IsFit c.args.change) (fit_of c.args.change) looked
+    fit_copies trees overlay (IsFit c.args.changed.change) (fit_of c.args.changed.change) looked
     object (small_parts object small) c.requires.fit c.promise.new.trees c.keeps_bytes.result copies
     c.in_ok-copies.ensures.copies
     (ap (λ t. files_at t f) inodes ∙ promised_files f n trees

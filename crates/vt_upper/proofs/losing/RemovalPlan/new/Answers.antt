@@ -13,9 +13,9 @@ use Rattle.vt_upper.proofs.losing.RemovalPlan.new.Goals as goal
 pub returns-in-Ok-clause-place : goal.returns-in-Ok-clause-place
 returns-in-Ok-clause-place c =
     let removal = c.in_ok-removal.removal in
-    subst (λ (r : NameRemoval). IsPlaceOf c.args.trees.now c.args.overlay.now c.args.directory r.place)
+    subst (λ (r : NameRemoval). IsPlaceOf c.args.trees.now c.args.overlay.now c.args.removed.directory r.place)
     (sym c.keeping.ensures)
-    (place_keeping c.keeps-keeps.result c.args.trees.now c.args.overlay.now c.args.directory removal.place
+    (place_keeping c.keeps-keeps.result c.args.trees.now c.args.overlay.now c.args.removed.directory removal.place
     c.in_ok-removal.ensures.place)
 
 pub returns-in-Ok-clause-keeps : goal.returns-in-Ok-clause-keeps
@@ -28,7 +28,7 @@ returns-in-Ok-clause-keeps c =
 pub returns-in-Ok-clause-losing : goal.returns-in-Ok-clause-losing
 returns-in-Ok-clause-losing c = λ path way.
     c.of-losing.ensures.loses path c.args.removed.name.items
-    (name_at c.args.trees.now c.args.overlay.now c.args.directory c.args.removed.node c.args.removed.name.items
+    (name_at c.args.trees.now c.args.overlay.now c.args.removed.directory c.args.removed.node c.args.removed.name.items
     c.requires.named path way)
 
 pub returns-in-Ok-clause-name : goal.returns-in-Ok-clause-name
@@ -54,7 +54,7 @@ returns-in-Ok-clause-ready c =
 pub returns-in-Ok-clause-may_be_kept : goal.returns-in-Ok-clause-may_be_kept
 returns-in-Ok-clause-may_be_kept c =
     let losing = c.of-losing.result in
-    let way = way_of_entry c.args.trees.now c.args.overlay.now (number_of c.args.directory)
+    let way = way_of_entry c.args.trees.now c.args.overlay.now (number_of c.args.removed.directory)
     (number_of c.args.removed.node) c.args.removed.name.items c.requires.named in
     let old = c.new.new.overlay.nodes.kept in
     let many = c.one_more.result in
@@ -62,7 +62,7 @@ returns-in-Ok-clause-may_be_kept c =
     let none : IsNotKept losing old = subst (IsNotKept losing) (sym (kept_is c.args.overlay.now c.new.new.overlay
     (many_in c.in_ok-removal.removal.place) c.in_ok-removal.ensures.others c.in_ok-removal.ensures.births))
     (c.of-losing.ensures.not_kept way.0 c.args.removed.name.items
-    (name_at c.args.trees.now c.args.overlay.now c.args.directory c.args.removed.node c.args.removed.name.items
+    (name_at c.args.trees.now c.args.overlay.now c.args.removed.directory c.args.removed.node c.args.removed.name.items
     c.requires.named way.0 way.1)) in
     subst (MayBeKept losing) (sym c.in-Ok.ensures.ok) (
       λ yes. let more : many ≡ 1 = one ∙ ap one_if yes in omega (arith, more),

@@ -2,7 +2,7 @@ use Rattle.std.proofs.Common.{ap, ◌+◌, ◌∙◌}
 use Rattle.vt_fs.specs.FilesystemsValue.{giving_back, with_changed}
 use Rattle.vt_location.specs.declared.numbers.FilesystemId.{FilesystemId}
 use Rattle.vt_upper.specs.New.{start_of}
-use Rattle.vt_upper.proofs.GivenBack.{given_in_turn}
+use Rattle.vt_copyup.proofs.GivenBack.{given_in_turn}
 use Rattle.vt_upper.proofs.making.NewPlan.give_back.Goals as goal
 
 pub returns-clause-trees : goal.returns-clause-trees

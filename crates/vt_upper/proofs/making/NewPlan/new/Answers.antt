@@ -19,9 +19,9 @@ returns-clause-ready c =
     let inodes : c.promise.new.trees ≡ with_changed (start_of place).filesystem.count (promising all) trees =
     c.in_ok-promise.ensures.inodes
     ∙ ap (λ (id : FilesystemId). with_changed id.count (promising all) trees) c.filesystem.ensures in
-    subst (λ b. IsPlaceReady place c.args.object.name.items c.promise.new.trees b c.place_for.new.room)
+    subst (λ b. IsPlaceReady place c.args.made.object.name.items c.promise.new.trees b c.place_for.new.room)
     (sym c.in_ok-promise.ensures.births)
-    (subst (λ t. IsPlaceReady place c.args.object.name.items t (record births { promised = births.promised + n })
+    (subst (λ t. IsPlaceReady place c.args.made.object.name.items t (record births { promised = births.promised + n })
     c.place_for.new.room) (sym inodes)
     (subst (λ name. IsPlaceReady place name
     (with_changed (start_of place).filesystem.count (promising all) trees)
@@ -46,6 +46,6 @@ returns-clause-inodes c =
     more
 
 pub place_for-requires-clause-may_put : goal.place_for-requires-clause-may_put
-place_for-requires-clause-may_put c = subst (MayPutIn c.args.trees.now c.args.overlay.now c.args.directory)
-    (sym c.deref-2.ensures.value) (may_put c.args.trees.now c.args.overlay.now c.requires.standing c.args.directory
-    c.args.object.name.items c.requires.may_make)
+place_for-requires-clause-may_put c = subst (MayPutIn c.args.trees.now c.args.overlay.now c.args.made.directory)
+    (sym c.deref-2.ensures.value) (may_put c.args.trees.now c.args.overlay.now c.requires.standing c.args.made.directory
+    c.args.made.object.name.items c.requires.may_make)

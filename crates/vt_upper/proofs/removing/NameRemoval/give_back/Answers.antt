@@ -2,7 +2,7 @@ use Rattle.std.proofs.Common.{rules, ap, arith, false, sym, true, ◌+◌, ◌�
 use Rattle.vt_fs.specs.FilesystemsValue.{giving_back, with_changed}
 use Rattle.vt_location.specs.declared.numbers.FilesystemId.{FilesystemId}
 use Rattle.vt_upper.specs.New.{many_in, one_if, start_of}
-use Rattle.vt_upper.proofs.GivenBack.{given_in_turn}
+use Rattle.vt_copyup.proofs.GivenBack.{given_in_turn}
 use Rattle.vt_upper.proofs.removing.NameRemoval.give_back.Goals as goal
 
 pub returns-then-not-hidden-clause-trees : goal.returns-then-not-hidden-clause-trees

@@ -9,15 +9,15 @@ use Rattle.vt_upper.proofs.RemovalsReady.{removal_ready}
 use Rattle.vt_upper.proofs.removing.NameRemoval.new.Goals as goal
 
 pub place_for-requires-clause-may_put : goal.place_for-requires-clause-may_put
-place_for-requires-clause-may_put c = subst (MayPutIn c.args.trees.now c.args.overlay.now c.args.directory)
-    (sym c.deref-2.ensures.value) (may_take c.args.trees.now c.args.overlay.now c.requires.standing c.args.directory
-    c.args.name.items c.requires.may_remove)
+place_for-requires-clause-may_put c = subst (MayPutIn c.args.trees.now c.args.overlay.now c.args.at.directory)
+    (sym c.deref-2.ensures.value) (may_take c.args.trees.now c.args.overlay.now c.requires.standing c.args.at.directory
+    c.args.at.name.items c.requires.may_remove)
 
 pub returns-clause-ready : goal.returns-clause-ready
 returns-clause-ready c =
     let trees = c.args.trees.now in
     let births = c.args.overlay.now.nodes.births in
-    let name = c.args.name.items in
+    let name = c.args.at.name.items in
     let place = c.in_ok-place.place in
     let hidden = c.hides_something-hidden.result in
     let n = c.copies-copies.result in
