@@ -1,5 +1,5 @@
 -- How answers change.
-use Rattle.std.proofs.Common.{Bool, List, None, Option, Some, [], ap, cond, false, filter, inl, inr, nat_eq, not, refl, suc, sym, take, true, true≢false, zero, ℕ, ◌&&◌, ◌∙◌, ◌∷◌, ◌≡◌, ◌⊎◌}
+use Rattle.std.proofs.Common.{Bool, List, None, Option, Some, [], ap, cond, false, filter, inl, inr, nat_eq, not, refl, suc, sym, take, true, zero, ℕ, ◌&&◌, ◌∙◌, ◌∷◌, ◌≡◌, ◌⊎◌}
 use Rattle.std.specs.Cmp.Lexicographic.{same_text}
 use Rattle.std.specs.List.{find}
 use Rattle.std.specs.Option.{option_map, option_or}
@@ -10,7 +10,7 @@ use Rattle.vt_location.specs.SameNodes.{same_node}
 use Rattle.vt_location.specs.declared.locations.NodeRef.{NodeRef}
 use Rattle.vt_location.proofs.NodeLemmas.{same_node-itself}
 use Rattle.vt_names.specs.Answers.{AnswersLeftWereThere, ForgottenNamesAreNotAnswered, LooksChangeNoAnswer, OtherAnswersWereThere}
-use Rattle.vt_names.specs.NamesValue.{KeptEntry, digest, first_in_place, is_in_place_of, is_of, kept_first, others_than, said}
+use Rattle.vt_names.specs.NamesValue.{KeptEntry, digest, is_in_place_of, is_of, others_than, said}
 use Rattle.vt_names.proofs.Filtered.{find-filter}
 use Rattle.vt_names.proofs.Nodes.{one_node}
 

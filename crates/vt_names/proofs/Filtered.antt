@@ -1,5 +1,5 @@
 -- Filters as what removes and promotes the pair of a key, and what they leave to be found.
-use Rattle.std.proofs.Common.{Bool, Contains, List, None, Option, Some, [], ap, cond, false, filter, inl, inr, length, map, not, refl, subst, sym, true, true≢false, zero, suc, ℕ, ◌+◌, ◌++◌, ◌<◌, ◌≤◌, ◌∙◌, ◌∷◌, ◌≡◌, ◌⊎◌, arith}
+use Rattle.std.proofs.Common.{Bool, Contains, List, None, Option, Some, [], ap, cond, false, filter, inl, inr, length, map, not, refl, subst, sym, true, true≢false, ◌+◌, ◌++◌, ◌∙◌, ◌∷◌, ◌≡◌, arith}
 use Rattle.std.specs.Cmp.{IsEquivalence}
 use Rattle.std.specs.List.{IsDistinct, find}
 use Rattle.std.specs.Map.{keys_of, lookup_entry, remove_entry}

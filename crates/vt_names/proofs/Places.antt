@@ -1,5 +1,5 @@
 -- What is kept by hash under the key of a name is what is in its place.
-use Rattle.std.proofs.Common.{Bool, Contains, List, None, Option, Some, [], ap, arith, cond, eq-eqb, eqb-true, false, inl, inr, length, map, nat_eq, not, refl, suc, sym, take, true, true≢false, zero, ℕ, ◌&&◌, ◌++◌, ◌-◌, ◌<◌, ◌≤◌, ◌∙◌, ◌∷◌, ◌≡◌}
+use Rattle.std.proofs.Common.{Bool, List, None, Option, Some, [], ap, arith, cond, eq-eqb, eqb-true, false, inl, inr, length, nat_eq, not, refl, suc, sym, take, true, true≢false, zero, ℕ, ◌&&◌, ◌++◌, ◌-◌, ◌<◌, ◌≤◌, ◌∙◌, ◌∷◌, ◌≡◌}
 use Rattle.std.specs.Cmp.Lexicographic.{same_text}
 use Rattle.std.specs.List.{IsDistinct, find}
 use Rattle.std.specs.Map.{keys_of, lookup, lookup_entry, remove_entry}
@@ -20,7 +20,7 @@ use Rattle.vt_names.specs.contracts.kept.NameKeyPartialEq.TheImpl as key_eq
 use Rattle.vt_names.specs.contracts.kept.NameKeyEq.TheImpl.Laws.{laws-law}
 use Rattle.vt_names.specs.declared.kept.KeptName.{KeptName}
 use Rattle.vt_names.specs.declared.kept.NameKey.{NameKey}
-use Rattle.vt_names.specs.NamesValue.{KeptEntry, digest, first_in_place, is_in_place_of, is_of, kept_first, others_than, said}
+use Rattle.vt_names.specs.NamesValue.{digest, first_in_place, is_in_place_of, is_of, kept_first, others_than, said}
 use Rattle.vt_names.specs.Pairs.{AreByDigest, Pairs, entries_of, entry_of, key_of, said_by}
 use Rattle.vt_names.proofs.Filtered.{filter-map, nothing_removed, of_key, of_others, one_removed, others-removed, promoted-first}
 use Rattle.vt_names.proofs.Nodes.{one_node}

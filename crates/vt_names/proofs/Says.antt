@@ -1,5 +1,5 @@
 -- What is kept says what a world shows.
-use Rattle.std.proofs.Common.{Bool, Contains, List, None, Option, Some, ap, false, filter, inl, inr, nat_eq, not, refl, subst, sym, true, true≢false, ℕ, ◌&&◌, ◌∙◌, ◌∷◌, ◌≡◌}
+use Rattle.std.proofs.Common.{None, Option, Some, ap, filter, inl, inr, nat_eq, not, refl, subst, sym, true, true≢false, ◌&&◌, ◌∙◌, ◌∷◌, ◌≡◌}
 use Rattle.std.specs.List.{find}
 use Rattle.std.specs.Option.{option_map}
 use Rattle.std.proofs.lemmas.List.Elements.{Contains-append_cases}
@@ -11,9 +11,8 @@ use Rattle.vt_spec.specs.Machine.World.{filesystem_numbered}
 use Rattle.vt_spec.specs.Tree.{entries_in, entry_named}
 use Rattle.vt_location.specs.Locations.{number_of}
 use Rattle.vt_location.specs.SameNodes.{same_node}
-use Rattle.vt_location.specs.declared.locations.NodeRef.{NodeRef}
-use Rattle.vt_names.specs.NamesValue.{KeptEntry, digest, first_in_place, is_in_place_of, is_of, kept_first, others_than, said}
-use Rattle.vt_names.specs.Says.{AnswersAreShown, ChangedNamesAreForgotten, IsShown, LooksLeaveWhatIsSaid, OneMountShows, Says, ShownNamesMayBeKept, WorldsShowByFilesystem}
+use Rattle.vt_names.specs.NamesValue.{KeptEntry, digest, is_in_place_of, is_of, others_than}
+use Rattle.vt_names.specs.Says.{AnswersAreShown, ChangedNamesAreForgotten, IsShown, LooksLeaveWhatIsSaid, OneMountShows, ShownNamesMayBeKept, WorldsShowByFilesystem}
 use Rattle.vt_names.proofs.Answers.{directory_of-name, own_place, text_of-name}
 use Rattle.vt_names.proofs.Filtered.{Contains-filter, passes-filter}
 

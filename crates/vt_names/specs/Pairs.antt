@@ -1,5 +1,5 @@
 -- What is kept by hash.
-use Rattle.std.specs.Prelude.{Bool, Contains, List, None, Option, Some, [], if◌then◌else◌, map, ℕ, ◌≡◌}
+use Rattle.std.specs.Prelude.{Contains, List, None, Option, Some, [], if◌then◌else◌, map, ℕ, ◌≡◌}
 use Rattle.std.specs.Str.{bytes_eq}
 use Rattle.lru.specs.LruCache.{LruCache}
 use Rattle.vt_location.specs.declared.locations.NodeRef.{NodeRef}
