@@ -6,12 +6,12 @@ use std::alloc::{AllocError, Global};
 pub const VERSION: &str = "0.4.0";
 
 const ABOUT: &str =
-    "Answers calls on a file tree as Linux would, with the rule by which each is granted or refused";
+    "Answers calls on a file tree as Linux would, and names the rule that refuses a call";
 
 const STATUSES: &str = "Exit status:
   0  all is well; of run: all was read and answered, denials included
   1  something was found, a file cannot be read or written, or there was no memory at the start
-  2  the words are refused, or ask for help or the version; of turns: there are too many orders";
+  2  the command line is invalid, or asks for help or the version; of turns: too many orders";
 
 // How an argument is written.
 #[derive(Clone, Copy)]
@@ -133,7 +133,7 @@ static COMMANDS: [Taking; 9] = [
             Argument {
                 name: "verbose",
                 form: Form::Letter('v'),
-                help: "Tells of each file how many scripts pass",
+                help: "Shows for each file how many scripts pass",
             },
             SCRIPT,
             Argument {
@@ -232,7 +232,7 @@ static COMMANDS: [Taking; 9] = [
             Argument {
                 name: "check",
                 form: Form::Flag,
-                help: "Of mountinfo: runs the script, and tells what its mounts differ in from the tables",
+                help: "Of mountinfo: runs the script, and shows how its mounts differ from the tables",
             },
             Argument {
                 name: "files",
@@ -253,7 +253,7 @@ static COMMANDS: [Taking; 9] = [
     },
     Taking {
         name: "rules",
-        about: "Tells of the rules that refuse calls",
+        about: "Explains the rules that refuse calls",
         arguments: &[
             Argument {
                 name: "markdown",
